@@ -80,6 +80,7 @@ function elementsOf(bytes) {
     return found;
 }
 
+const [SEQUENCE, BIT_STRING, IDENTIFIER] = [0x30, 3, 6];
 const EC_PUBLIC_KEY = "2a8648ce3d0201";
 const CURVE_IDENTIFIERS = new Map([
     ["2a8648ce3d030107", 1],
@@ -92,10 +93,13 @@ const CURVE_IDENTIFIERS = new Map([
  * @param {Uint8Array} der
  */
 function keyOfInfo(der) {
-    const [algorithm, bits] = elementsOf(elementOf(der).content);
-    const [kind, curve] = elementsOf(algorithm.content).map((it) => hexOf(it.content));
-    if (kind !== EC_PUBLIC_KEY) throw new BadInput("The PEM block isn't a public key on an elliptic curve.");
-    const crv = CURVE_IDENTIFIERS.get(curve);
+    const outer = elementOf(der);
+    const [algorithm, bits, ...others] = elementsOf(outer.content);
+    const [kind, curve, ...more] = algorithm?.tag === SEQUENCE ? elementsOf(algorithm.content) : [];
+    const isWhole = outer.tag === SEQUENCE && !outer.rest.length && !others.length && !more.length;
+    const isPoint = kind?.tag === IDENTIFIER && hexOf(kind.content) === EC_PUBLIC_KEY && curve?.tag === IDENTIFIER;
+    if (!isWhole || !isPoint || bits?.tag !== BIT_STRING || bits.content[0] !== 0) throw new BadInput("The PEM block isn't a public key on an elliptic curve.");
+    const crv = CURVE_IDENTIFIERS.get(hexOf(curve.content));
     if (!crv) throw new BadInput("The key's curve isn't P-256, P-384 or P-521.");
     return keyOfPoint(crv, bits.content.subarray(1));
 }
@@ -107,7 +111,9 @@ function keyOfInfo(der) {
 function keyOfPoint(crv, point) {
     const size = CURVES[/** @type {1 | 2 | 3} */ (crv)].bytes;
     const [x, rest] = [point.slice(1, 1 + size), point.slice(1 + size)];
-    const y = point[0] === 4 && rest.length === size ? rest : point[0] === 3;
+    const isWhole = point[0] === 4 && rest.length === size;
+    if (!isWhole && !((point[0] === 2 || point[0] === 3) && point.length === 1 + size)) throw new BadInput("The key isn't a point of its curve.");
+    const y = isWhole ? rest : point[0] === 3;
     return new Map(/** @type {[number, any][]} */ ([[1, 2], [-1, crv], [-2, x], [-3, y]]));
 }
 
@@ -135,7 +141,7 @@ function infoOf(der) {
     let fields = elementOf(elementOf(der).content).content;
     const skipped = fields[0] === 0xa0 ? 6 : 5;
     for (let i = 0; i < skipped; i += 1) fields = elementOf(fields).rest;
-    return fields;
+    return fields.subarray(0, fields.length - elementOf(fields).rest.length);
 }
 
 // ---- JWK
@@ -145,17 +151,31 @@ const JWK_CURVES = new Map([["P-256", 1], ["P-384", 2], ["P-521", 3]]);
 const JWK_OPERATIONS = new Map([["sign", 1], ["verify", 2], ["encrypt", 3], ["decrypt", 4], ["wrapKey", 5], ["unwrapKey", 6], ["deriveKey", 7], ["deriveBits", 8]]);
 
 /**
+ * The bytes of a member in base64url, with its padding or without (RFC 7515 section 2).
  * @param {Record<string, any>} key
  * @param {string} name
  */
 function member(key, name) {
-    const bytes = typeof key[name] === "string" ? base64url(key[name]) : undefined;
+    const bytes = typeof key[name] === "string" && /^[\w-]*=*$/.test(key[name]) ? base64url(key[name]) : undefined;
     if (!bytes) throw new BadInput(`A JWK has no ${name} in base64url.`);
     return bytes;
 }
 
 /**
- * The COSE_Key of a JWK (RFC 7517), or nothing of one for something else.
+ * A number of a JWK on a curve.
+ * @param {Record<string, any>} key
+ * @param {string} name
+ * @param {number} crv
+ */
+function coordinate(key, name, crv) {
+    const bytes = member(key, name);
+    const wanted = CURVES[/** @type {1 | 2 | 3} */ (crv)].bytes;
+    if (bytes.length !== wanted) throw new BadInput(`The ${name} of a JWK has ${bytesCount(bytes.length)} in place of ${wanted}.`);
+    return bytes;
+}
+
+/**
+ * The COSE_Key of a JWK (RFC 7517), without a private part, or nothing of one for something else.
  * @param {Record<string, any>} key
  * @returns {Map<number, any> | undefined}
  */
@@ -166,25 +186,31 @@ function keyOfJwk(key) {
     const alg = key.alg === undefined ? undefined : JWK_ALGORITHMS.get(key.alg);
     if ((key.use ?? "sig") !== "sig" || (key.alg !== undefined && alg === undefined)) return undefined;
     const made = new Map(/** @type {[number, any][]} */ ([[1, isSymmetric ? 4 : 2]]));
-    if (key.kid !== undefined) made.set(2, new TextEncoder().encode(String(key.kid)));
+    if (key.kid !== undefined && typeof key.kid !== "string") throw new BadInput("The kid of a JWK is no text.");
+    if (key.kid !== undefined) made.set(2, new TextEncoder().encode(key.kid));
     if (alg !== undefined) made.set(3, alg);
-    if (Array.isArray(key.key_ops)) made.set(4, operationsOf(key.key_ops, isSymmetric));
+    if (key.key_ops !== undefined) made.set(4, operationsOf(key.key_ops, isSymmetric));
     if (made.get(4)?.length === 0) return undefined;
-    if (isSymmetric) return made.set(-1, member(key, "k"));
-    return made.set(-1, crv).set(-2, member(key, "x")).set(-3, member(key, "y"));
+    if (isSymmetric || !crv) return made.set(-1, member(key, "k"));
+    return made.set(-1, crv).set(-2, coordinate(key, "x", crv)).set(-3, coordinate(key, "y", crv));
 }
 
 /**
- * The numbers of operations (RFC 7517 section 4.3, RFC 9052 section 7.1): of a MAC's key two have others.
- * @param {any[]} names
+ * The numbers of operations (RFC 7517 section 4.3, RFC 9052 section 7.1): of a MAC's key two have others. Those that aren't
+ * registered are left out.
+ * @param {any} names
  * @param {boolean} isSymmetric
  */
 function operationsOf(names, isSymmetric) {
+    if (!Array.isArray(names) || names.some((name) => typeof name !== "string")) throw new BadInput("The key_ops of a JWK aren't an array of texts.");
     const numbers = names.map((name) => (isSymmetric && name === "sign" ? 9 : isSymmetric && name === "verify" ? 10 : JWK_OPERATIONS.get(name)));
     return numbers.filter((it) => it !== undefined);
 }
 
-/** @param {string} text */
+/**
+ * The keys of a JWK or a JWK set (RFC 7517 section 5): of a set those that can be made.
+ * @param {string} text
+ */
 function keysOfJson(text) {
     let value;
     try {
@@ -192,8 +218,16 @@ function keysOfJson(text) {
     } catch {
         throw new BadInput("The keys begin like a JWK, and aren't JSON.");
     }
-    const keys = Array.isArray(value?.keys) ? value.keys : [value];
-    const made = keys.flatMap((/** @type {any} */ key) => keyOfJwk(Object(key)) ?? []);
+    const isSet = value?.keys !== undefined;
+    const keys = isSet && Array.isArray(value.keys) ? value.keys : isSet ? [] : [value];
+    const made = keys.flatMap((/** @type {any} */ key) => {
+        try {
+            return keyOfJwk(Object(key)) ?? [];
+        } catch (fault) {
+            if (isSet && fault instanceof BadInput) return [];
+            throw fault;
+        }
+    });
     if (!made.length) throw new BadInput("None of the JWKs is an HMAC key, or an EC key that verifies signatures.");
     return made;
 }

@@ -44,6 +44,14 @@ type group struct {
 	Now           *string
 	Leeway        uint32
 	Audience      *[]string
+	Algorithms    []cose.Algorithm
+	LeastSecret   uint64
+	ShortMAC      bool
+	WithoutAlg    bool
+	Present       []string
+	Iss, Sub, Aud *string
+	Lifetime, Age *string
+	WithoutExp    bool
 	Place         uint64
 	Table         *int
 	Key           octets
@@ -75,6 +83,8 @@ type result struct {
 	Taken         *int
 	PayloadTaken  int
 	Reason        string
+	Requirement   string
+	Claim         string
 	Place         uint64
 	Auth          uint64
 	Claims        map[string]any
@@ -628,6 +638,101 @@ func runClaims(g *group, r *row) (err error) {
 	return nil
 }
 
+// ---- tokens under terms and requirements
+
+func (g *group) terms(large bool) (*cose.Terms, error) {
+	terms := &cose.Terms{
+		Options:     cose.Options{AAD: g.AAD, Wanted: kinds[g.Wanted], Large: large},
+		Algorithms:  g.Algorithms,
+		LeastSecret: g.LeastSecret,
+		ShortMAC:    g.ShortMAC,
+		WithoutAlg:  g.WithoutAlg,
+	}
+	if g.PayloadLimit != nil {
+		terms.PayloadLimit = *g.PayloadLimit
+	}
+	for _, label := range g.Understood {
+		number, is := label.(float64)
+		if !is {
+			return nil, leftOut("a label that is a text is understood")
+		}
+		terms.Understood = append(terms.Understood, int64(number))
+	}
+	return terms, nil
+}
+
+// durationOf is a number of seconds.
+func durationOf(text *string) time.Duration {
+	if text == nil {
+		return 0
+	}
+	return time.Duration(number(*text).Int64()) * time.Second
+}
+
+func (g *group) requirements() *cose.Requirements {
+	requirements := &cose.Requirements{
+		CurrentTime: time.Unix(number(*g.Now).Int64(), 0),
+		Leeway:      time.Duration(g.Leeway) * time.Second,
+		Issuer:      g.Iss,
+		Subject:     g.Sub,
+		Audience:    g.Aud,
+		MaxLifetime: durationOf(g.Lifetime),
+		MaxAge:      durationOf(g.Age),
+		WithoutExp:  g.WithoutExp,
+	}
+	for _, name := range g.Present {
+		for claim := cose.ClaimIss; claim <= cose.ClaimCti; claim++ {
+			if cose.Requirement(claim).String() == name {
+				requirements.Present = append(requirements.Present, claim)
+			}
+		}
+	}
+	return requirements
+}
+
+// required is the answer for claims, or which requirement they don't meet.
+func required(claims *cose.Claims, err error) string {
+	var unmet *cose.Unmet
+	if errors.As(err, &unmet) {
+		return fmt.Sprintf("unmet %v %d", unmet.Requirement, unmet.Place)
+	}
+	return admitted(claims, err)
+}
+
+func runTerms(g *group, r *row) error {
+	wanted := r.Result.refusal(strings.ReplaceAll(r.Result.Verdict, " message", ""))
+	switch r.Result.Verdict {
+	case "admitted":
+		wanted = "claims " + wantedClaims(r.Result.Claims)
+	case "unmet":
+		name := r.Result.Claim
+		if name == "" {
+			name = strings.ToLower(r.Result.Requirement)
+		}
+		wanted = fmt.Sprintf("unmet %s %d", name, r.Result.Place)
+	}
+	for _, large := range []bool{false, true} {
+		terms, err := g.terms(large)
+		if err != nil {
+			return err
+		}
+		if err = differs("Admit", required(cose.Admit(g.Keys, r.Token, g.requirements(), terms)), wanted); err != nil {
+			return err
+		}
+		message, err := cose.Authenticate(g.Keys, r.Token, terms)
+		seen := ""
+		if err != nil {
+			seen = refusal(err)
+		} else {
+			seen = required(cose.AdmitClaims(message.Payload, g.requirements(), large))
+		}
+		if err = differs("Authenticate and AdmitClaims", seen, wanted); err != nil {
+			return err
+		}
+	}
+	return nil
+}
+
 // ---- keys
 
 // setReasons are what a set is refused for; a key in it that is refused for another reason isn't usable.
@@ -741,6 +846,7 @@ func TestRows(t *testing.T) {
 		{"shapes", runShape, 7},
 		{"tokens", runToken, 4},
 		{"claims", runClaims, 23},
+		{"terms", runTerms, 0},
 		{"keys", runKey, 2},
 		{"sets", runSet, 11},
 		{"made", runMade, 1},

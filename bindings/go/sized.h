@@ -70,6 +70,36 @@ static inline struct cose_claims_set sized_verify_cwt(bool large, struct sized_b
     return claims;
 }
 
+static inline struct cose_item sized_claim(struct sized_bytes payload, int64_t label)
+{
+    struct cose_item item = {0};
+    cose_claim(payload.at, payload.length, label, &item);
+    return item;
+}
+
+static inline struct cose_item sized_claim_named(struct sized_bytes payload, struct sized_bytes name)
+{
+    struct cose_item item = {0};
+    cose_claim_named(payload.at, payload.length, name.at, name.length, &item);
+    return item;
+}
+
+static inline struct cose_item sized_parameter(bool large, uint32_t kind, struct sized_bytes message, bool is_protected, int64_t label)
+{
+    struct cose_item item = {0};
+    (large ? cose_large_parameter : cose_parameter)((enum cose_kind_number)kind, message.at, message.length, is_protected, label, &item);
+    return item;
+}
+
+static inline struct cose_item sized_parameter_named(bool large, uint32_t kind, struct sized_bytes message, bool is_protected,
+    struct sized_bytes name)
+{
+    struct cose_item item = {0};
+    (large ? cose_large_parameter_named : cose_parameter_named)((enum cose_kind_number)kind, message.at, message.length, is_protected,
+        name.at, name.length, &item);
+    return item;
+}
+
 static inline struct cose_message_shape sized_shape(uint32_t kind, struct sized_bytes message)
 {
     struct cose_message_shape shape = {0};
@@ -176,6 +206,31 @@ static inline struct cose_message_verdict sized_verdict(bool large, uint8_t *blo
     else
         cose_verdict(&verifier, signature_is_good, &verdict);
     return verdict;
+}
+
+static inline struct cose_item sized_header(bool large, uint8_t *block, bool is_protected, int64_t label, uint8_t *into, size_t room)
+{
+    struct cose_item item = {0};
+    struct cose_verifier verifier = {block};
+    struct cose_large_verifier large_verifier = {block};
+    if (large)
+        cose_large_header(&large_verifier, is_protected, label, into, room, &item);
+    else
+        cose_header(&verifier, is_protected, label, into, room, &item);
+    return item;
+}
+
+static inline struct cose_item sized_header_named(bool large, uint8_t *block, bool is_protected, struct sized_bytes name, uint8_t *into,
+    size_t room)
+{
+    struct cose_item item = {0};
+    struct cose_verifier verifier = {block};
+    struct cose_large_verifier large_verifier = {block};
+    if (large)
+        cose_large_header_named(&large_verifier, is_protected, name.at, name.length, into, room, &item);
+    else
+        cose_header_named(&verifier, is_protected, name.at, name.length, into, room, &item);
+    return item;
 }
 
 static inline void sized_reset(bool large, uint8_t *block)

@@ -20,6 +20,7 @@ const STATUS = Object.freeze({
     CLOSED: 10,
     STOPPED: 11,
     BAD_ARGUMENT: 12,
+    UNMET: 13,
     // end of what ci/edge_tables makes
 });
 
@@ -48,6 +49,9 @@ const FIELDS = Object.freeze({
         "uint8_t crv", "uint8_t y_sign", "uint64_t x_length", "uint64_t y_length", "uint64_t digest_length",
         "uint64_t signature_length", "uint8_t[66] x", "uint8_t[66] y", "uint8_t[64] digest", "uint8_t[132] signature",
     ],
+    cose_item: [
+        "uint64_t at", "uint64_t length", "uint64_t content_at", "uint64_t number", "uint8_t present", "uint8_t major",
+    ],
     cose_key_set: ["uint8_t status", "uint8_t reason", "uint64_t place", "uint64_t usable"],
     cose_made: ["uint8_t status", "uint8_t reason", "uint64_t length"],
     cose_status: ["uint8_t status", "uint8_t reason", "uint64_t place"],
@@ -55,9 +59,19 @@ const FIELDS = Object.freeze({
         "uint8_t status", "uint8_t reason", "uint8_t kind", "int32_t alg", "uint64_t place", "uint64_t payload_at",
         "uint64_t payload_length", "uint64_t taken",
     ],
+    cose_requirements: [
+        "uint32_t size", "uint32_t leeway", "int64_t now", "uint64_t lifetime", "uint64_t age", "pointer iss",
+        "uint64_t iss_length", "pointer sub", "uint64_t sub_length", "pointer aud", "uint64_t aud_length",
+        "uint8_t present", "uint8_t permitted",
+    ],
     cose_message_shape: [
         "uint8_t status", "uint8_t reason", "uint8_t kind", "uint64_t place", "uint64_t payload_length",
         "uint64_t auth_length", "uint64_t taken",
+    ],
+    cose_terms: [
+        "uint32_t size", "uint8_t kind", "uint8_t permitted", "uint64_t least_secret", "uint64_t payload_limit",
+        "pointer keys", "uint64_t keys_length", "pointer aad", "uint64_t aad_length", "int32_t[16] algorithms",
+        "int64_t[16] understood",
     ],
     cose_fed: ["cose_status status", "uint64_t used", "uint64_t payload_at", "uint64_t payload_length"],
     // end of what ci/edge_tables makes
@@ -113,8 +127,9 @@ const LAYOUTS = Object.fromEntries(Object.keys(FIELDS).map((name) => [name, layo
 
 const NOTHING = new Uint8Array();
 
-/** The class of rooms.js, which a page reads as a script before this one. */
+/** The classes of rooms.js and terms.js, which a page reads as scripts before this one. */
 const ROOMS = typeof module === "object" ? module.require("./rooms.js").Rooms : Rooms;
+const STATED = typeof module === "object" ? module.require("./terms.js").Stated : Stated;
 
 /**
  * @typedef {object} Options
@@ -271,6 +286,42 @@ class Cose {
         return verdict;
     }
 
+    /** @param {string} name of a struct */
+    layout(name) {
+        return LAYOUTS[name];
+    }
+
+    // ---- one call over memory, under terms and requirements, which terms.js puts where the module reads them
+
+    /**
+     * Verifies a message as `verify` does, under terms, whose defaults are safe. Where its payload is detached, pass it.
+     * @param {Uint8Array | KeyTable} keys
+     * @param {Uint8Array} message
+     * @param {Terms & {payload?: Uint8Array}} [terms]
+     */
+    authenticate(keys, message, terms = {}) {
+        return STATED.authenticate(this, bytesOfKeys(keys), message, terms);
+    }
+
+    /**
+     * The claims of a token under terms, where they meet requirements. Where it is SIGNED `authenticate` it, and call `admitClaims`.
+     * @param {Uint8Array | KeyTable} keys
+     * @param {Uint8Array} token
+     * @param {Terms & Requirements} options
+     */
+    admit(keys, token, options) {
+        return STATED.admit(this, bytesOfKeys(keys), token, options);
+    }
+
+    /**
+     * The claims of a payload that is known to be authentic, where they meet the requirements.
+     * @param {Uint8Array} payload
+     * @param {Requirements & {large?: boolean}} options
+     */
+    admitClaims(payload, options) {
+        return STATED.admitClaims(this, payload, options);
+    }
+
     // ---- one call over memory
 
     /**
@@ -419,6 +470,49 @@ class Cose {
     }
 
     /**
+     * The claim of any label, of claims that were read: the bytes of its item, which `decodeItem` makes a value.
+     * @param {Uint8Array} payload
+     * @param {number | bigint | string} label
+     * @returns {Uint8Array | undefined}
+     */
+    claim(payload, label) {
+        return this.scoped((scope) => {
+            const at = scope.room(LAYOUTS.cose_item.size);
+            if (typeof label === "string") {
+                const name = scope.put(new TextEncoder().encode(label));
+                this.exports.cose_edge_claim_named(...scope.put(payload), ...name, at);
+            } else {
+                this.exports.cose_edge_claim(...scope.put(payload), labelOf(label), at);
+            }
+            const item = this.read(at, "cose_item");
+            return item.present ? copyOf(payload, item.at, item.length) : undefined;
+        });
+    }
+
+    /**
+     * A header parameter of a message that is known to be authentic: the bytes of its item, which `decodeItem` makes a value. Those of
+     * the unprotected header are not authentic: anyone may have changed them.
+     * @param {Uint8Array} message
+     * @param {number | bigint | string} label
+     * @param {{protected: boolean, wanted?: number, large?: boolean}} options
+     * @returns {Uint8Array | undefined}
+     */
+    parameter(message, label, { protected: isProtected, wanted = WANTED.TAGGED, large = false }) {
+        return this.scoped((scope) => {
+            const at = scope.room(LAYOUTS.cose_item.size);
+            const name = `cose_edge_${large ? "large_" : ""}parameter`;
+            const before = [wanted, ...scope.put(message), isProtected ? 1 : 0];
+            if (typeof label === "string") {
+                this.exports[`${name}_named`](...before, ...scope.put(new TextEncoder().encode(label)), at);
+            } else {
+                this.exports[name](...before, labelOf(label), at);
+            }
+            const item = this.read(at, "cose_item");
+            return item.present ? copyOf(message, item.at, item.length) : undefined;
+        });
+    }
+
+    /**
      * The text string of this number, from 0, of the audience that a payload names.
      * @param {Uint8Array} payload
      * @param {number} index
@@ -432,6 +526,19 @@ class Cose {
             return range.present ? copyOf(payload, range.at, range.length) : undefined;
         });
     }
+}
+
+/** @param {Uint8Array | KeyTable} keys */
+const bytesOfKeys = (keys) => (keys instanceof KeyTable ? keys.keys : keys);
+
+/**
+ * A label, which has 64 bits.
+ * @param {number | bigint} label
+ */
+function labelOf(label) {
+    const number = BigInt(label);
+    if (BigInt.asIntN(64, number) !== number) throw new RangeError("a label has 64 bits");
+    return number;
 }
 
 /**
@@ -657,6 +764,28 @@ class Verifier extends Block {
         });
     }
 
+    /**
+     * A header parameter of the message so far, as of `Cose.parameter`. Nothing of it is authentic before the verdict.
+     * @param {number | bigint | string} label
+     * @param {{protected: boolean}} options
+     * @returns {Uint8Array | undefined}
+     */
+    parameter(label, { protected: isProtected }) {
+        return this.cose.scoped((scope) => {
+            const length = this.prefix ? 65_535 : 1_024;
+            const [at, room] = [scope.room(LAYOUTS.cose_item.size), scope.room(length)];
+            const which = [this.handle, isProtected ? 1 : 0];
+            if (typeof label === "string") {
+                const name = scope.put(new TextEncoder().encode(label));
+                this.call("header_named", true)(...which, ...name, room, BigInt(length), at);
+            } else {
+                this.call("header", true)(...which, labelOf(label), room, BigInt(length), at);
+            }
+            const item = this.cose.read(at, "cose_item");
+            return item.present ? this.cose.bytes(room, item.length) : undefined;
+        });
+    }
+
     /** Begins the next message, under the same keys. */
     reset() {
         this.asked = undefined;
@@ -745,5 +874,5 @@ class Maker extends Block {
 }
 
 if (typeof module === "object") {
-    Object.assign(module.exports, { Cose, KeyTable, Verifier, Maker, STATUS, WANTED, FIELDS, LAYOUTS, copyOf });
+    Object.assign(module.exports, { Cose, KeyTable, Verifier, Maker, STATUS, WANTED, UNMET: STATED.UNMET, FIELDS, LAYOUTS, copyOf });
 }

@@ -1,6 +1,7 @@
 // What a script finds: in Node `module`, and in the page the bytes of cose_wasm.js.
 interface ModulesOfScripts {
     "./rooms.js": { Rooms: typeof Rooms };
+    "./terms.js": { Stated: typeof Stated };
     "node:crypto": { webcrypto: Crypto };
 }
 declare var module: { exports: object; require<Path extends keyof ModulesOfScripts>(path: Path): ModulesOfScripts[Path] } | undefined;

@@ -1,10 +1,12 @@
 // The package `cose` for Node: messages and tokens, by the module that ci/web_module builds.
 import { readFile } from "node:fs/promises";
 import low from "./cose.js";
+import items from "./items.js";
 import reasons from "./reasons.js";
 import signatures from "./signatures.js";
 
-export const { KeyTable, Verifier, Maker, STATUS, WANTED } = low;
+export const { KeyTable, Verifier, Maker, STATUS, WANTED, UNMET } = low;
+export const { decodeItem, Tagged, Simple } = items;
 export const { REASONS, reasonOf } = reasons;
 export const { sigStructure, protectedOf, isGoodSignature } = signatures;
 
@@ -13,11 +15,25 @@ export class Refused extends Error {
     /** @param {{status: number, reason: number, place: number}} answer */
     constructor({ status, reason, place }) {
         const name = Object.entries(STATUS).find(([, number]) => number === status)?.[0] ?? `status ${status}`;
-        super(reason ? `${reasonOf(reason).name} at ${place}` : name);
+        const why = status === STATUS.UNMET ? `UNMET ${UNMET[reason]}` : reason ? reasonOf(reason).name : undefined;
+        super(why ? `${why} at ${place}` : name);
         this.status = name;
-        this.reason = reason ? reasonOf(reason).name : undefined;
+        this.reason = status === STATUS.UNMET ? UNMET[reason] : why;
         this.place = place;
     }
+}
+
+/** The number of BadAuth. */
+const BAD_AUTH = 28;
+
+/**
+ * The place of the head of a signature of so many bytes, with which a message ends.
+ * @param {Uint8Array} message
+ * @param {number} length
+ */
+function placeOfSignature(message, length) {
+    const widths = [2, 3, 5, 9].map((width, index) => ({ place: message.length - length - width, first: 0x58 + index }));
+    return widths.find(({ place, first }) => message[place] === first)?.place ?? 0;
 }
 
 /** The library. */
@@ -51,6 +67,40 @@ export class Cose extends low.Cose {
         const { now = Math.floor(Date.now() / 1000), leeway, audience, ...others } = options;
         const payload = await this.payload(keys, token, others);
         const claims = this.claims(payload, { now, leeway, audience, large: options.large });
+        if (claims.status !== STATUS.AUTHENTIC) throw new Refused(claims);
+        return claims;
+    }
+
+    /**
+     * The payload of a message that is authentic under terms, whose defaults are safe. A signature is verified by WebCrypto. Else it
+     * rejects with `Refused`.
+     * @param {Uint8Array | KeyTable} keys
+     * @param {Uint8Array} message
+     * @param {Terms & {payload?: Uint8Array}} [terms]
+     * @returns {Promise<Uint8Array>}
+     */
+    async authenticPayload(keys, message, terms = {}) {
+        const verdict = this.authenticate(keys, message, terms);
+        const { payloadAt, payloadLength, input } = verdict;
+        const payload = terms.payload ?? low.copyOf(message, payloadAt, payloadLength);
+        if (verdict.status === STATUS.AUTHENTIC) return payload;
+        if (verdict.status !== STATUS.SIGNED) throw new Refused(verdict);
+        const structure = sigStructure(protectedOf(message), terms.aad ?? new Uint8Array(), payload);
+        if (await isGoodSignature(input, structure)) return payload;
+        throw new Refused({ status: STATUS.REFUSED, reason: BAD_AUTH, place: placeOfSignature(message, input.signature.length) });
+    }
+
+    /**
+     * The claims of a token that is authentic under terms and meets the requirements, by default at the time of the machine's clock.
+     * Else it rejects with `Refused`.
+     * @param {Uint8Array | KeyTable} keys
+     * @param {Uint8Array} token
+     * @param {Terms & Partial<Requirements>} [options]
+     */
+    async admitted(keys, token, options = {}) {
+        const { now = Math.floor(Date.now() / 1000), ...others } = options;
+        const payload = await this.authenticPayload(keys, token, others);
+        const claims = this.admitClaims(payload, { ...others, now });
         if (claims.status !== STATUS.AUTHENTIC) throw new Refused(claims);
         return claims;
     }

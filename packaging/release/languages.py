@@ -57,10 +57,12 @@ def wheel(made_from: Source, target: str) -> Tuple[str, Files]:
 def python_sources(made_from: Source) -> Files:
     """The sources of the package for Python, with the archives, so that pip builds from them without a variable."""
     base, top = f"cose-{made_from.version}/", TOP / "bindings" / "python"
-    files = of_folder(top, base, ("pyproject.toml", "backend/*.py", "src/cose/*.py", "src/cose/py.typed"))
+    own = ("pyproject.toml", "backend/*.py", "extension/*.c", "src/cose/*.py", "src/cose/*.pyi", "src/cose/py.typed")
+    files = of_folder(top, base, own)
     for name in LICENSES:
         files[base + name] = of_file(TOP / name)
     files[base + "PYTHON.md"] = of_file(TOP / "docs" / "PYTHON.md")
+    files[base + "cose.h"] = of_file(TOP / "include" / "cose.h")
     metadata = backend().METADATA.format(version=made_from.version)
     files[base + "PKG-INFO"] = Entry(metadata.encode())
     return files

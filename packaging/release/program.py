@@ -67,6 +67,7 @@ def tree(made_from: Source, way: "tuple[str, ...]") -> Files:
     wrapper = (TOP / "packaging" / "cosecmd.in").read_text().replace("@record@\n", record(made_from, content))
     files: Files = {"libexec/cose/cosecmd": Entry(content, 0o755), "bin/cosecmd": Entry(wrapper.encode(), 0o755)}
     files.update({f"bin/{SCRIPTS[name]}": script(name) for name in SCRIPTS})
+    files["libexec/cose/key_forms.py"] = of_file(TOP / "bindings" / "python" / "src" / "cose" / "key_forms.py")
     return {**files, **pages()}
 
 

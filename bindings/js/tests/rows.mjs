@@ -7,7 +7,7 @@
 import assert from "node:assert/strict";
 import { readFileSync } from "node:fs";
 import { fileURLToPath } from "node:url";
-import { KeyTable, load, Maker, reasonOf, STATUS, Verifier } from "../index.mjs";
+import { KeyTable, load, Maker, reasonOf, STATUS, UNMET, Verifier } from "../index.mjs";
 
 const ROWS = new URL("../../../rows/", import.meta.url);
 const CUTS = [1, 2, 7, 64, 65_536];
@@ -270,6 +270,37 @@ function runClaims(group, test) {
     }
 }
 
+// ---- tokens under terms and requirements
+
+function termsOf(group, large) {
+    const { algorithms, leastSecret, payloadLimit, understood, shortMac, withoutAlg, present, withoutExp, leeway } = group;
+    const terms = { aad: octets(group.aad), wanted: WANTED[group.wanted], large, algorithms, leastSecret, payloadLimit, understood };
+    const { iss: issuer, sub: subject, aud: audience, lifetime: maxLifetime, age: maxAge } = group;
+    return { ...terms, shortMac, withoutAlg, now: BigInt(group.now), leeway, issuer, subject, audience, present, maxLifetime, maxAge, withoutExp };
+}
+
+/** The answer for claims, or which requirement they don't meet. */
+function required(claims) {
+    return claims.status === STATUS.UNMET ? ["unmet", UNMET[claims.reason], claims.place] : admitted(claims);
+}
+
+function wantedOf({ verdict, claims, requirement, claim, place, ...result }) {
+    if (verdict === "admitted") return ["admitted", wantedClaims(claims)];
+    return verdict === "unmet" ? ["unmet", claim ?? requirement.toLowerCase(), place] : refusal({ verdict, place, ...result });
+}
+
+function runTerms(group, test) {
+    const [keys, token, wanted] = [octets(group.keys), octets(test.token), wantedOf(test.result)];
+    for (const large of [false, true]) {
+        const stated = termsOf(group, large);
+        equal(required(cose.admit(keys, token, stated)), wanted, "admit");
+        const verdict = cose.authenticate(keys, token, stated);
+        const payload = token.subarray(verdict.payloadAt, verdict.payloadAt + verdict.payloadLength);
+        const seen = verdict.status === STATUS.AUTHENTIC ? required(cose.admitClaims(payload, stated)) : refused(verdict);
+        equal(seen, wanted, "authenticate and admitClaims");
+    }
+}
+
 // ---- keys
 
 // what a set is refused for; a key in it that is refused for another reason isn't usable
@@ -332,6 +363,7 @@ const RUNNERS = {
     shapes: runShape,
     tokens: runToken,
     claims: runClaims,
+    terms: runTerms,
     keys: runKey,
     sets: runSet,
     made: runMade,

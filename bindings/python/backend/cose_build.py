@@ -4,8 +4,9 @@ setuptools would have to be fetched into the environment that pip builds in; thi
 
 The archive is libcose_c.a, as it is built, or libcose.a, as it is installed: that of the folder
 COSE_LIB_DIR, or that which pkg-config knows as `cose`. It becomes cose/_libcose.so, and the record of
-its proof is in the wheel too. An archive without the mark of a proof is refused. Where there is no
-archive, but an installed libcose.so, the package loads that one.
+its proof is in the wheel too. An archive without the mark of a proof is refused. Where Python.h is
+there, the extension that makes the calls that are made most is compiled, and linked to
+cose/_libcose.so. Where there is no archive, but an installed libcose.so, the package loads that one.
 """
 
 from __future__ import annotations
@@ -18,14 +19,19 @@ import pathlib
 import re
 import shlex
 import subprocess
+import sys
 import sysconfig
 import tarfile
 import tempfile
 import zipfile
-from typing import Any, Dict, Optional
+from typing import Any, Dict, List, Optional
 
 TOP = pathlib.Path(__file__).resolve().parent.parent
 SOURCE = TOP / "src" / "cose"
+EXTENSION = TOP / "extension" / "calls.c"
+LIBRARY = "_libcose.so"
+# for each Python from 3.9 on: the name of the extension, and the tags of a wheel that has it
+STABLE, STABLE_TAG = "_extension.abi3.so", "cp39-abi3"
 ARCHIVES = ("libcose_c.a", "libcose.a")
 LICENSES = ("LICENSE-APACHE", "LICENSE-MIT")
 PAGE = "PYTHON.md"
@@ -78,9 +84,31 @@ def _has_installed_library() -> bool:
 
 def _link(archive: pathlib.Path, library: pathlib.Path) -> None:
     """Makes a shared library of the whole archive, which needs nothing but the C library."""
-    compiler = shlex.split(os.environ.get("CC", "cc"))
     whole = ["-Wl,--whole-archive", str(archive), "-Wl,--no-whole-archive"]
-    command = [*compiler, "-shared", "-s", *whole, "-Wl,-z,defs", "-o", str(library), "-lc"]
+    named = ["-Wl,-soname," + library.name, "-Wl,-z,defs", "-o", str(library), "-lc"]
+    _compile("-shared", "-s", *whole, *named)
+
+
+def _link_extension(library: pathlib.Path, extension: pathlib.Path) -> None:
+    """Compiles the extension, which finds the library in the folder that it is in itself."""
+    header, place = _shared("cose.h").parent, sysconfig.get_paths()["include"]
+    options = ["-std=c11", "-O2", "-fPIC", "-fvisibility=hidden", f"-I{header}", f"-I{place}"]
+    linked = ["-Wl,-rpath,$ORIGIN", f"-L{library.parent}", f"-l:{library.name}"]
+    _compile("-shared", "-s", *options, str(EXTENSION), *linked, "-o", str(extension))
+
+
+def _has_stable_abi() -> bool:
+    """Whether this Python has the stable ABI, and the header that an extension is compiled with."""
+    is_free_threaded = bool(sysconfig.get_config_var("Py_GIL_DISABLED"))
+    if sys.implementation.name != "cpython" or is_free_threaded:
+        return False
+    return pathlib.Path(sysconfig.get_paths()["include"], "Python.h").exists()
+
+
+def _compile(*words: str) -> None:
+    """Runs the C compiler."""
+    compiler = shlex.split(os.environ.get("CC", "cc"))
+    command = [*compiler, *words]
     try:
         ended = subprocess.run(command, capture_output=True, text=True)
     except FileNotFoundError:
@@ -106,22 +134,32 @@ def _proof_of(archive: pathlib.Path) -> bytes:
 def _shared(name: str) -> pathlib.Path:
     """A file of the repository, or its copy in what build_sdist packs."""
     repository = TOP.parent.parent
-    places = (TOP / name, repository / name, repository / "docs" / name)
+    folders = (TOP, repository, repository / "docs", repository / "include")
+    places = [folder / name for folder in folders]
     return next(place for place in places if place.exists())
+
+
+def _sources() -> List[pathlib.Path]:
+    """The package's modules, and the types of the extension."""
+    return sorted([*SOURCE.glob("*.py"), *SOURCE.glob("*.pyi")])
 
 
 def _files(info: str) -> Dict[str, bytes]:
     """The files of the wheel, by their names."""
-    files = {f"cose/{it.name}": it.read_bytes() for it in sorted(SOURCE.glob("*.py"))}
+    files = {f"cose/{it.name}": it.read_bytes() for it in _sources()}
     files["cose/py.typed"] = b""
     files.update({f"{info}/licenses/{name}": _shared(name).read_bytes() for name in LICENSES})
     archive = _archive()
     if archive:
         files[f"{info}/libcose.proof"] = _proof_of(archive)
         with tempfile.TemporaryDirectory() as folder:
-            library = pathlib.Path(folder, "_libcose.so")
+            library, extension = (pathlib.Path(folder, it) for it in (LIBRARY, STABLE))
             _link(archive, library)
-            files["cose/_libcose.so"] = library.read_bytes()
+            if _has_stable_abi():
+                _link_extension(library, extension)
+            files.update(
+                {f"cose/{it.name}": it.read_bytes() for it in (library, extension) if it.exists()}
+            )
     elif not _has_installed_library():
         raise SystemExit(
             f"cose: there is no {' or '.join(ARCHIVES)}, and no installed libcose.so:"
@@ -148,9 +186,9 @@ def build_wheel(
     info = f"cose-{version}.dist-info"
     files = _files(info)
     platform = "any"
-    if "cose/_libcose.so" in files:
+    if f"cose/{LIBRARY}" in files:
         platform = re.sub(r"[-.]", "_", sysconfig.get_platform())
-    tag = f"py3-none-{platform}"
+    tag = f"{STABLE_TAG if f'cose/{STABLE}' in files else 'py3-none'}-{platform}"
     page = _shared(PAGE).read_text()
     files[f"{info}/METADATA"] = f"{METADATA.format(version=version)}\n{page}".encode()
     pure = str(platform == "any").lower()
@@ -172,9 +210,9 @@ def build_sdist(sdist_directory: str, config_settings: Optional[Dict[str, Any]] 
     """Packs the sources, and returns the name (PEP 517)."""
     base = f"cose-{_version()}"
     with tarfile.open(pathlib.Path(sdist_directory, f"{base}.tar.gz"), "w:gz") as packed:
-        for path in [TOP / "pyproject.toml", *TOP.glob("backend/*.py"), *SOURCE.glob("*.py")]:
+        own = [TOP / "pyproject.toml", *TOP.glob("backend/*.py"), EXTENSION, SOURCE / "py.typed"]
+        for path in [*own, *_sources()]:
             packed.add(path, f"{base}/{path.relative_to(TOP)}")
-        packed.add(SOURCE / "py.typed", f"{base}/src/cose/py.typed")
-        for name in (*LICENSES, PAGE):
+        for name in (*LICENSES, PAGE, "cose.h"):
             packed.add(_shared(name), f"{base}/{name}")
     return f"{base}.tar.gz"

@@ -364,6 +364,64 @@ def run_claims(group: Row, test: Row) -> None:
         equal(answer(call), wanted, "claims")
 
 
+# ---- tokens under terms and requirements
+
+
+def terms_of(group: Row) -> Row:
+    """What a group states of messages and requires of tokens, as arguments."""
+    numbers = {"lifetime": "max_lifetime", "age": "max_age"}
+    names = {"iss": "issuer", "sub": "subject", "aud": "audience"}
+    plainly = {"leastSecret": "least_secret", "shortMac": "short_mac", "withoutAlg": "without_alg"}
+    plainly.update({"withoutExp": "without_exp", "payloadLimit": "payload_limit"})
+    found = {to: group[it] for it, to in {**names, **plainly}.items() if it in group}
+    found.update((to, int(group[it])) for it, to in numbers.items() if it in group)
+    same = ("algorithms", "present", "leeway", "understood")
+    found.update((it, group[it]) for it in same if it in group)
+    found.update(now=int(group["now"]), aad=octets(group, "aad"), wanted=KINDS[group["wanted"]])
+    return found
+
+
+# those of messages
+_STATED = ("algorithms", "least_secret", "short_mac", "without_alg", "understood", "payload_limit")
+
+
+def unmet_of(result: Row) -> Answer:
+    name = result.get("claim", result["requirement"])
+    return "unmet", name.upper(), result["place"]
+
+
+def run_terms(group: Row, test: Row) -> None:
+    result, token, keys = test["result"], octets(test, "token"), octets(group, "keys")
+    given = terms_of(group)
+    if result["verdict"] == "admitted":
+        wanted: Answer = "admitted", wanted_claims(result["claims"])
+    elif result["verdict"] == "unmet":
+        wanted = unmet_of(result)
+    else:
+        wanted = refusal(result, result["verdict"].replace(" message", ""))
+    for large in SIZES:
+        for held in (keys, cose.KeyTable(keys)):
+
+            def call() -> Answer:
+                try:
+                    return "admitted", plain(cose.admit(held, token, large=large, **given))
+                except cose.Unmet as unmet:
+                    return "unmet", unmet.requirement.name, unmet.place
+
+            equal(answer(call), wanted, "admit")
+        messages = {it: given[it] for it in (*_STATED, "aad", "wanted") if it in given}
+        of_tokens = {it: given[it] for it in given if it not in messages}
+
+        def in_two() -> Answer:
+            payload = cose.authenticate(keys, token, large=large, **messages).payload
+            try:
+                return "admitted", plain(cose.admit_claims(payload, large=large, **of_tokens))
+            except cose.Unmet as unmet:
+                return "unmet", unmet.requirement.name, unmet.place
+
+        equal(answer(in_two), wanted, "authenticate and admit_claims")
+
+
 # ---- keys
 
 # what a set is refused for; a key in it that is refused for another reason isn't usable
@@ -447,6 +505,7 @@ RUNNERS: Dict[str, Callable[[Row, Row], None]] = {
     "shapes": run_shape,
     "tokens": run_token,
     "claims": run_claims,
+    "terms": run_terms,
     "keys": run_key,
     "sets": run_set,
     "made": run_made,

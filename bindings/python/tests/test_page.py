@@ -32,7 +32,7 @@ class Page(unittest.TestCase):
     def test_python(self) -> None:
         message = mac0(b"a payload")
         names: Dict[str, Any] = {"keys": KEYS, "data": message, "token": TOKEN}
-        names["pieces"] = [message[:20], message[20:]]
+        names["pieces"], names["tokens"] = [message[:20], message[20:]], [TOKEN, TOKEN[:-1]]
         printed = io.StringIO()
         with contextlib.redirect_stdout(printed):
             for block in blocks("python"):

@@ -217,7 +217,7 @@ class KeyFiles(unittest.TestCase):
             "alg": "HS256",
             "key_ops": ["verify"],
         }
-        wanted = cbor.encode([{1: 4, -1: SECRET, 2: b"a key", 3: 5, 4: [10]}])
+        wanted = cbor.encode([{1: 4, 2: b"a key", 3: 5, 4: [10], -1: SECRET}])
         self.assertEqual(key_files.read(json.dumps(key).encode()), wanted)
         self.assertEqual(cose.verify(wanted, mac0(b"hi", kid=b"a key")).payload, b"hi")
         others = [

@@ -15,6 +15,7 @@ class Rows(unittest.TestCase):
         "shapes": 7,
         "tokens": 4,
         "claims": 23,
+        "terms": 0,
         "keys": 2,
         "sets": 11,
         "made": 1,

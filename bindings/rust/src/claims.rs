@@ -3,6 +3,7 @@
 use core::str;
 
 use crate::error::{number, part, Error};
+use crate::item::Item;
 use crate::sign_input::{Curve, PublicKey, Y};
 use crate::{raw, Size, Small};
 
@@ -79,6 +80,25 @@ impl<'t> Claims<'t> {
     #[must_use]
     pub fn payload(&self) -> &'t [u8] {
         self.payload
+    }
+
+    /// The claim of any label that is an integer ([RFC 8392 section 9.1](https://www.rfc-editor.org/rfc/rfc8392#section-9.1)), if the
+    /// token has it.
+    #[must_use]
+    pub fn claim(&self, label: i64) -> Option<Item<'t>> {
+        Item::of_label(self.payload, label).ok().flatten()
+    }
+
+    /// The same of a label that is a text string.
+    #[must_use]
+    pub fn claim_named(&self, name: &str) -> Option<Item<'t>> {
+        Item::of_name(self.payload, name).ok().flatten()
+    }
+
+    /// All claims, as the map that they are.
+    #[must_use]
+    pub fn item(&self) -> Option<Item<'t>> {
+        Item::at(self.payload, 0).ok().flatten()
     }
 
     /// The library's answer, with the bytes that have the payload.

@@ -21,6 +21,7 @@ pub(crate) mod number {
     pub(crate) const CLOSED: u8 = 10;
     pub(crate) const STOPPED: u8 = 11;
     pub(crate) const BAD_ARGUMENT: u8 = 12;
+    pub(crate) const UNMET: u8 = 13;
     // end of what ci/edge_tables makes
 }
 

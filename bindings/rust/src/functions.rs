@@ -18,6 +18,21 @@ type Bytes = *const u8;
 #[rustfmt::skip]
 #[allow(dead_code, reason = "each export is declared")]
 pub(crate) struct Functions<V> {
+    pub(crate) admit: unsafe extern "C" fn(
+        terms: &raw::Terms, requirements: &raw::Requirements, token: Bytes, token_length: usize,
+        claims: &mut raw::Claims,
+    ),
+    pub(crate) admit_claims: unsafe extern "C" fn(
+        requirements: &raw::Requirements, payload: Bytes, payload_length: usize, claims: &mut raw::Claims,
+    ),
+    pub(crate) authenticate: unsafe extern "C" fn(
+        terms: &raw::Terms, message: Bytes, message_length: usize, verdict: &mut raw::Verdict,
+        input: &mut raw::SignInput,
+    ),
+    pub(crate) authenticate_detached: unsafe extern "C" fn(
+        terms: &raw::Terms, message: Bytes, message_length: usize, payload: Bytes, payload_length: usize,
+        verdict: &mut raw::Verdict, input: &mut raw::SignInput,
+    ),
     pub(crate) verify_cwt: unsafe extern "C" fn(
         keys: Bytes, keys_length: usize, aad: Bytes, aad_length: usize, policy: &raw::Policy, token: Bytes,
         token_length: usize, claims: &mut raw::Claims,
@@ -36,6 +51,13 @@ pub(crate) struct Functions<V> {
         keys: Bytes, keys_length: usize, aad: Bytes, aad_length: usize, wanted: u8, message: Bytes,
         message_length: usize, payload: Bytes, payload_length: usize, verdict: &mut raw::Verdict,
         input: &mut raw::SignInput,
+    ),
+    pub(crate) parameter: unsafe extern "C" fn(
+        wanted: u8, message: Bytes, message_length: usize, is_protected: u32, label: i64, item: &mut raw::Item,
+    ),
+    pub(crate) parameter_named: unsafe extern "C" fn(
+        wanted: u8, message: Bytes, message_length: usize, is_protected: u32, name: Bytes, name_length: usize,
+        item: &mut raw::Item,
     ),
     pub(crate) open: unsafe extern "C" fn(
         verifier: &mut V, keys: Bytes, keys_length: usize, aad: Bytes, aad_length: usize, wanted: u8,
@@ -59,11 +81,22 @@ pub(crate) struct Functions<V> {
     pub(crate) reset: unsafe extern "C" fn(verifier: &mut V),
     pub(crate) taken: unsafe extern "C" fn(verifier: &mut V) -> u64,
     pub(crate) held: unsafe extern "C" fn(verifier: &mut V) -> u64,
+    pub(crate) header: unsafe extern "C" fn(
+        verifier: &mut V, is_protected: u32, label: i64, into: *mut u8, into_room: usize, item: &mut raw::Item,
+    ),
+    pub(crate) header_named: unsafe extern "C" fn(
+        verifier: &mut V, is_protected: u32, name: Bytes, name_length: usize, into: *mut u8, into_room: usize,
+        item: &mut raw::Item,
+    ),
 }
 
 impl Library for Small {
     type Handle = raw::Verifier;
     const FUNCTIONS: Functions<raw::Verifier> = Functions {
+        admit: raw::cose_edge_admit,
+        admit_claims: raw::cose_edge_admit_claims,
+        authenticate: raw::cose_edge_authenticate,
+        authenticate_detached: raw::cose_edge_authenticate_detached,
         verify_cwt: raw::cose_edge_verify_cwt,
         claims: raw::cose_edge_claims,
         size: raw::cose_verifier_size,
@@ -71,6 +104,8 @@ impl Library for Small {
         begin: raw::cose_begin,
         verify: raw::cose_edge_verify,
         verify_detached: raw::cose_edge_verify_detached,
+        parameter: raw::cose_edge_parameter,
+        parameter_named: raw::cose_edge_parameter_named,
         open: raw::cose_edge_open,
         open_detached: raw::cose_edge_open_detached,
         feed: raw::cose_edge_feed,
@@ -85,12 +120,18 @@ impl Library for Small {
         reset: raw::cose_reset,
         taken: raw::cose_taken,
         held: raw::cose_held,
+        header: raw::cose_edge_header,
+        header_named: raw::cose_edge_header_named,
     };
 }
 
 impl Library for Large {
     type Handle = raw::LargeVerifier;
     const FUNCTIONS: Functions<raw::LargeVerifier> = Functions {
+        admit: raw::cose_edge_large_admit,
+        admit_claims: raw::cose_edge_large_admit_claims,
+        authenticate: raw::cose_edge_large_authenticate,
+        authenticate_detached: raw::cose_edge_large_authenticate_detached,
         verify_cwt: raw::cose_edge_large_verify_cwt,
         claims: raw::cose_edge_large_claims,
         size: raw::cose_large_verifier_size,
@@ -98,6 +139,8 @@ impl Library for Large {
         begin: raw::cose_large_begin,
         verify: raw::cose_edge_large_verify,
         verify_detached: raw::cose_edge_large_verify_detached,
+        parameter: raw::cose_edge_large_parameter,
+        parameter_named: raw::cose_edge_large_parameter_named,
         open: raw::cose_edge_large_open,
         open_detached: raw::cose_edge_large_open_detached,
         feed: raw::cose_edge_large_feed,
@@ -112,6 +155,8 @@ impl Library for Large {
         reset: raw::cose_large_reset,
         taken: raw::cose_large_taken,
         held: raw::cose_large_held,
+        header: raw::cose_edge_large_header,
+        header_named: raw::cose_edge_large_header_named,
     };
 }
 // end of what ci/edge_tables makes

@@ -56,13 +56,16 @@ mod error;
 mod functions;
 #[cfg(feature = "std")]
 mod io;
+mod item;
 mod make;
 mod message;
+mod parameter;
 mod raw;
 mod reason;
 mod sign_input;
 mod size;
 mod table;
+mod terms;
 mod verifier;
 
 pub use block::Block;
@@ -70,13 +73,20 @@ pub use claims::{claims, verify_cwt, Audiences, Claims, Confirmation, Policy};
 pub use error::Error;
 #[cfg(feature = "std")]
 pub use io::{make, ReadError};
+pub use item::{Item, Items};
 pub use make::{MacAlg, Maker, MakerBlock, Making, HEAD_ROOM, TAIL_ROOM};
 pub use message::{
     shape, usable_keys, verify, verify_detached, verify_with, Kind, Message, Options, Shape,
     Signed, Verdict, Wanted,
 };
+pub use parameter::{parameter, Bucket, Label};
 pub use reason::{Reason, Refusal};
 pub use sign_input::{Curve, PublicKey, SignInput, POINT_ROOM, Y};
 pub use size::{Large, Size, Small};
 pub use table::{KeyTable, TableBlock};
+pub use terms::{
+    admit, admit_claims, admit_claims_sized, admit_sized, authenticate, authenticate_detached,
+    authenticate_detached_sized, authenticate_sized, Claim, NotAdmitted, Requirement, Requirements,
+    Terms,
+};
 pub use verifier::{Accepted, Fed, LargeVerifierBlock, Status, Verifier, VerifierBlock};

@@ -123,6 +123,18 @@ pub(crate) struct SignInput {
     pub(crate) signature: [u8; 132],
 }
 
+/// A data item (RFC 8949 section 3) of a payload.
+#[repr(C)]
+#[derive(Clone, Copy, Debug, Default, PartialEq, Eq)]
+pub(crate) struct Item {
+    pub(crate) at: u64,
+    pub(crate) length: u64,
+    pub(crate) content_at: u64,
+    pub(crate) number: u64,
+    pub(crate) present: u8,
+    pub(crate) major: u8,
+}
+
 /// What is known of a key set (RFC 9052 section 7).
 #[repr(C)]
 #[derive(Clone, Copy, Debug, Default, PartialEq, Eq)]
@@ -165,6 +177,24 @@ pub(crate) struct Verdict {
     pub(crate) taken: u64,
 }
 
+/// What a caller requires of tokens.
+#[repr(C)]
+pub(crate) struct Requirements {
+    pub(crate) size: u32,
+    pub(crate) leeway: u32,
+    pub(crate) now: i64,
+    pub(crate) lifetime: u64,
+    pub(crate) age: u64,
+    pub(crate) iss: *const u8,
+    pub(crate) iss_length: usize,
+    pub(crate) sub: *const u8,
+    pub(crate) sub_length: usize,
+    pub(crate) aud: *const u8,
+    pub(crate) aud_length: usize,
+    pub(crate) present: u8,
+    pub(crate) permitted: u8,
+}
+
 /// The shape of a message (RFC 9052 sections 4.2 and 6.2).
 #[repr(C)]
 #[derive(Clone, Copy, Debug, Default, PartialEq, Eq)]
@@ -176,6 +206,22 @@ pub(crate) struct Shape {
     pub(crate) payload_length: u64,
     pub(crate) auth_length: u64,
     pub(crate) taken: u64,
+}
+
+/// What a caller states of messages.
+#[repr(C)]
+pub(crate) struct Terms {
+    pub(crate) size: u32,
+    pub(crate) kind: u8,
+    pub(crate) permitted: u8,
+    pub(crate) least_secret: u64,
+    pub(crate) payload_limit: u64,
+    pub(crate) keys: *const u8,
+    pub(crate) keys_length: usize,
+    pub(crate) aad: *const u8,
+    pub(crate) aad_length: usize,
+    pub(crate) algorithms: [i32; 16],
+    pub(crate) understood: [i64; 16],
 }
 
 /// What was used of a piece.
@@ -194,6 +240,32 @@ pub(crate) struct Fed {
 #[rustfmt::skip]
 #[allow(dead_code, reason = "each export is declared")]
 unsafe extern "C" {
+    pub(crate) fn cose_edge_admit(
+        terms: &Terms, requirements: &Requirements, token: *const u8, token_length: usize, claims: &mut Claims,
+    );
+    pub(crate) fn cose_edge_large_admit(
+        terms: &Terms, requirements: &Requirements, token: *const u8, token_length: usize, claims: &mut Claims,
+    );
+    pub(crate) fn cose_edge_admit_claims(
+        requirements: &Requirements, payload: *const u8, payload_length: usize, claims: &mut Claims,
+    );
+    pub(crate) fn cose_edge_large_admit_claims(
+        requirements: &Requirements, payload: *const u8, payload_length: usize, claims: &mut Claims,
+    );
+    pub(crate) fn cose_edge_authenticate(
+        terms: &Terms, message: *const u8, message_length: usize, verdict: &mut Verdict, input: &mut SignInput,
+    );
+    pub(crate) fn cose_edge_large_authenticate(
+        terms: &Terms, message: *const u8, message_length: usize, verdict: &mut Verdict, input: &mut SignInput,
+    );
+    pub(crate) fn cose_edge_authenticate_detached(
+        terms: &Terms, message: *const u8, message_length: usize, payload: *const u8, payload_length: usize,
+        verdict: &mut Verdict, input: &mut SignInput,
+    );
+    pub(crate) fn cose_edge_large_authenticate_detached(
+        terms: &Terms, message: *const u8, message_length: usize, payload: *const u8, payload_length: usize,
+        verdict: &mut Verdict, input: &mut SignInput,
+    );
     pub(crate) fn cose_edge_verify_cwt(
         keys: *const u8, keys_length: usize, aad: *const u8, aad_length: usize, policy: &Policy, token: *const u8,
         token_length: usize, claims: &mut Claims,
@@ -220,6 +292,11 @@ unsafe extern "C" {
     pub(crate) safe fn cose_verifier_size() -> usize;
     pub(crate) safe fn cose_verifier_align() -> usize;
     pub(crate) fn cose_begin(at: *mut u8);
+    pub(crate) fn cose_edge_claim(payload: *const u8, payload_length: usize, label: i64, item: &mut Item);
+    pub(crate) fn cose_edge_claim_named(
+        payload: *const u8, payload_length: usize, name: *const u8, name_length: usize, item: &mut Item,
+    );
+    pub(crate) fn cose_edge_item_at(payload: *const u8, payload_length: usize, place: u64, item: &mut Item);
     pub(crate) fn cose_edge_read_keys(keys: *const u8, keys_length: usize, key_set: &mut KeySet);
     pub(crate) fn cose_edge_make(
         maker: &mut Maker, alg: i32, key: *const u8, key_length: usize, kid: *const u8, kid_length: usize,
@@ -244,6 +321,20 @@ unsafe extern "C" {
         message_length: usize, payload: *const u8, payload_length: usize, verdict: &mut Verdict, input: &mut SignInput,
     );
     pub(crate) safe fn cose_version() -> u32;
+    pub(crate) fn cose_edge_parameter(
+        wanted: u8, message: *const u8, message_length: usize, is_protected: u32, label: i64, item: &mut Item,
+    );
+    pub(crate) fn cose_edge_large_parameter(
+        wanted: u8, message: *const u8, message_length: usize, is_protected: u32, label: i64, item: &mut Item,
+    );
+    pub(crate) fn cose_edge_parameter_named(
+        wanted: u8, message: *const u8, message_length: usize, is_protected: u32, name: *const u8, name_length: usize,
+        item: &mut Item,
+    );
+    pub(crate) fn cose_edge_large_parameter_named(
+        wanted: u8, message: *const u8, message_length: usize, is_protected: u32, name: *const u8, name_length: usize,
+        item: &mut Item,
+    );
     pub(crate) fn cose_edge_shape(wanted: u8, message: *const u8, message_length: usize, shape: &mut Shape);
     pub(crate) fn cose_edge_large_open(
         verifier: &mut LargeVerifier, keys: *const u8, keys_length: usize, aad: *const u8, aad_length: usize,
@@ -271,6 +362,13 @@ unsafe extern "C" {
     pub(crate) fn cose_large_reset(verifier: &mut LargeVerifier);
     pub(crate) fn cose_large_taken(verifier: &mut LargeVerifier) -> u64;
     pub(crate) fn cose_large_held(verifier: &mut LargeVerifier) -> u64;
+    pub(crate) fn cose_edge_large_header(
+        verifier: &mut LargeVerifier, is_protected: u32, label: i64, into: *mut u8, into_room: usize, item: &mut Item,
+    );
+    pub(crate) fn cose_edge_large_header_named(
+        verifier: &mut LargeVerifier, is_protected: u32, name: *const u8, name_length: usize, into: *mut u8,
+        into_room: usize, item: &mut Item,
+    );
     pub(crate) fn cose_edge_open(
         verifier: &mut Verifier, keys: *const u8, keys_length: usize, aad: *const u8, aad_length: usize, wanted: u8,
         status: &mut Status,
@@ -293,6 +391,13 @@ unsafe extern "C" {
     pub(crate) fn cose_reset(verifier: &mut Verifier);
     pub(crate) fn cose_taken(verifier: &mut Verifier) -> u64;
     pub(crate) fn cose_held(verifier: &mut Verifier) -> u64;
+    pub(crate) fn cose_edge_header(
+        verifier: &mut Verifier, is_protected: u32, label: i64, into: *mut u8, into_room: usize, item: &mut Item,
+    );
+    pub(crate) fn cose_edge_header_named(
+        verifier: &mut Verifier, is_protected: u32, name: *const u8, name_length: usize, into: *mut u8,
+        into_room: usize, item: &mut Item,
+    );
     pub(crate) fn cose_edge_table_read(table: &mut Table, keys: *const u8, keys_length: usize, key_set: &mut KeySet);
     pub(crate) fn cose_edge_table_verify(
         table: &mut Table, aad: *const u8, aad_length: usize, wanted: u8, message: *const u8, message_length: usize,

@@ -4,7 +4,10 @@ use core::fmt::Debug;
 
 use crate::block::Memory;
 use crate::functions::Library;
-use crate::{raw, Claims, Error, LargeVerifierBlock, Options, Policy, Verdict, VerifierBlock};
+use crate::{
+    raw, Bucket, Claims, Error, Item, Label, LargeVerifierBlock, Options, Policy, Verdict,
+    VerifierBlock, Wanted,
+};
 
 /// Header buckets of at most 1,024 bytes that nest 8 deep, and claims that nest 8 deep: the size where none is named.
 #[derive(Clone, Copy, Debug)]
@@ -145,6 +148,45 @@ pub trait Size: Library + Sized {
             );
         }
         Claims::of(&claims, token)
+    }
+
+    /// A header parameter of a message **that is known to be authentic**, by its label. [`parameter`](crate::parameter) is that of
+    /// [`Small`].
+    #[must_use]
+    fn parameter<'m>(
+        message: &'m [u8],
+        wanted: Wanted,
+        bucket: Bucket,
+        label: Label<'_>,
+    ) -> Option<Item<'m>> {
+        let mut item = raw::Item::default();
+        let is_protected = u32::from(bucket == Bucket::Protected);
+        match label {
+            // SAFETY: the pointer with the length is that of one slice, which is borrowed for the call, and the struct is this function's.
+            Label::Int(label) => unsafe {
+                (Self::FUNCTIONS.parameter)(
+                    wanted as u8,
+                    message.as_ptr(),
+                    message.len(),
+                    is_protected,
+                    label,
+                    &mut item,
+                );
+            },
+            // SAFETY: the same, of two slices.
+            Label::Text(name) => unsafe {
+                (Self::FUNCTIONS.parameter_named)(
+                    wanted as u8,
+                    message.as_ptr(),
+                    message.len(),
+                    is_protected,
+                    name.as_ptr(),
+                    name.len(),
+                    &mut item,
+                );
+            },
+        }
+        Item::of(message, item).ok().flatten()
     }
 
     /// The claims of a payload **that is known to be authentic**, where they are admitted. [`claims`](crate::claims) is that of

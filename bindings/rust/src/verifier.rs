@@ -2,7 +2,7 @@
 
 use crate::block::Memory;
 use crate::error::{number, part};
-use crate::{raw, Block, Error, Kind, Options, SignInput, Size, Small};
+use crate::{raw, Block, Bucket, Error, Item, Kind, Label, Options, SignInput, Size, Small};
 
 /// Memory for a [`Verifier`].
 pub type VerifierBlock = Block<4_096>;
@@ -328,6 +328,48 @@ impl<'k, S: Size> Verifier<'k, S> {
                 taken: verdict.taken,
             }),
             status => Err(Error::of(status, verdict.reason, verdict.place)),
+        }
+    }
+
+    /// A header parameter of the message so far, by its label, which is copied into the room. Nothing of it is authentic before the
+    /// verdict, nor of [`Bucket::Unprotected`] after it.
+    ///
+    /// # Errors
+    ///
+    /// The parameter has more bytes than there is room for: it has so many.
+    pub fn parameter<'r>(
+        &mut self,
+        bucket: Bucket,
+        label: Label<'_>,
+        room: &'r mut [u8],
+    ) -> Result<Option<Item<'r>>, u64> {
+        let mut item = raw::Item::default();
+        let (mut handle, is_protected) = (self.handle(), u32::from(bucket == Bucket::Protected));
+        let (into, count) = (room.as_mut_ptr(), room.len());
+        match label {
+            // SAFETY: the block was begun, and the pointer with the length is that of one slice, which is borrowed for the call.
+            Label::Int(label) => unsafe {
+                (S::FUNCTIONS.header)(&mut handle, is_protected, label, into, count, &mut item);
+            },
+            // SAFETY: the same, of two slices.
+            Label::Text(name) => unsafe {
+                (S::FUNCTIONS.header_named)(
+                    &mut handle,
+                    is_protected,
+                    name.as_ptr(),
+                    name.len(),
+                    into,
+                    count,
+                    &mut item,
+                );
+            },
+        }
+        if item.present == 0 {
+            return Ok(None);
+        }
+        match usize::try_from(item.length) {
+            Ok(length) if length <= count => Ok(Item::at(&room[..length], 0).ok().flatten()),
+            _ => Err(item.length),
         }
     }
 

@@ -8,17 +8,21 @@
 from ._answers import Ecdsa, SignInput
 from ._arguments import Algorithm, Buffer, Kind
 from ._library import Status
+from .admitting import admit, admit_claims, authenticate
 from .errors import (
     ClaimsRefused,
     Error,
     KeysRefused,
     LibraryNotFound,
     Refused,
+    Requirement,
     SignatureUnverified,
+    Unmet,
 )
 from .keys import Keys, KeyTable, count_keys
 from .making import Maker, make
-from .messages import Message, Shape, shape, verify
+from .many import verify_many
+from .messages import Label, Message, Shape, shape, verify
 from .reasons import Reason
 from .signatures import ecdsa
 from .tokens import Claims, Confirmation, ConfirmationKey, claims, verify_cwt
@@ -40,17 +44,23 @@ __all__ = [
     "Keys",
     "KeysRefused",
     "Kind",
+    "Label",
     "LibraryNotFound",
     "Maker",
     "Message",
     "Reason",
     "Refused",
+    "Requirement",
     "Shape",
     "SignInput",
     "SignatureUnverified",
     "Status",
+    "Unmet",
     "Verdict",
     "Verifier",
+    "admit",
+    "admit_claims",
+    "authenticate",
     "claims",
     "count_keys",
     "ecdsa",
@@ -58,4 +68,5 @@ __all__ = [
     "shape",
     "verify",
     "verify_cwt",
+    "verify_many",
 ]

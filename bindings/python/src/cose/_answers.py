@@ -3,10 +3,10 @@
 from __future__ import annotations
 
 from dataclasses import dataclass
-from typing import Any, Callable, NoReturn, Optional, Union
+from typing import Any, Callable, Dict, NoReturn, Optional, Union
 
 from ._library import SignInputStruct, Status
-from .errors import ClaimsRefused, KeysRefused, Refused, SignatureUnverified
+from .errors import ClaimsRefused, KeysRefused, Refused, Requirement, SignatureUnverified, Unmet
 from .reasons import Reason
 
 
@@ -36,16 +36,26 @@ _WRONG = {
 }
 
 
-def fail(answer: Any) -> NoReturn:
-    """Raises what an answer says that is no success: it has a status, a reason and a place."""
+_REFUSALS: Dict[int, Callable[[Reason, int], Union[Refused, KeysRefused]]] = {
+    Status.REFUSED: Refused,
+    Status.CLAIMS_REFUSED: ClaimsRefused,
+    Status.KEYS_REFUSED: KeysRefused,
+}
+
+
+def error_of(answer: Any) -> Exception:
+    """What an answer says that is no success, as an error: it has a status, a reason and a place."""
+    if answer.status in _REFUSALS:
+        return _REFUSALS[answer.status](Reason(answer.reason), answer.place)
     status = Status(answer.status)
-    if status == Status.REFUSED:
-        raise Refused(Reason(answer.reason), answer.place)
-    if status == Status.CLAIMS_REFUSED:
-        raise ClaimsRefused(Reason(answer.reason), answer.place)
-    if status == Status.KEYS_REFUSED:
-        raise KeysRefused(Reason(answer.reason), answer.place)
-    raise ValueError(_WRONG.get(status, f"the library answers {status.name}"))
+    if status == Status.UNMET:
+        return Unmet(Requirement(answer.reason), answer.place)
+    return ValueError(_WRONG.get(status, f"the library answers {status.name}"))
+
+
+def fail(answer: Any) -> NoReturn:
+    """Raises what an answer says that is no success."""
+    raise error_of(answer)
 
 
 def sign_input_of(struct: SignInputStruct) -> SignInput:

@@ -47,6 +47,7 @@ class Status(enum.IntEnum):
     CLOSED = 10
     STOPPED = 11
     BAD_ARGUMENT = 12
+    UNMET = 13
     # end of what ci/edge_tables makes
 
 
@@ -85,6 +86,9 @@ cose_signature_input
     u8*66 x y
     u8*64 digest
     u8*132 signature
+cose_item
+    u64 at length content_at number
+    u8 present major
 cose_key_set
     u8 status reason
     u64 place usable
@@ -98,9 +102,22 @@ cose_message_verdict
     u8 status reason kind
     i32 alg
     u64 place payload_at payload_length taken
+cose_requirements
+    u32 size leeway
+    i64 now
+    u64 lifetime age
+    bytes iss sub aud
+    u8 present permitted
 cose_message_shape
     u8 status reason kind
     u64 place payload_length auth_length taken
+cose_terms
+    u32 size
+    u8 kind permitted
+    u64 least_secret payload_limit
+    bytes keys aad
+    i32*16 algorithms
+    i64*16 understood
 cose_fed
     cose_status status
     u64 used payload_at payload_length
@@ -109,6 +126,14 @@ cose_fed
 
 # made by ci/edge_tables: exports
 _CALLS = """
+edge_admit &cose_terms &cose_requirements bytes &cose_claims_set
+edge_large_admit &cose_terms &cose_requirements bytes &cose_claims_set
+edge_admit_claims &cose_requirements bytes &cose_claims_set
+edge_large_admit_claims &cose_requirements bytes &cose_claims_set
+edge_authenticate &cose_terms bytes &cose_message_verdict &cose_signature_input
+edge_large_authenticate &cose_terms bytes &cose_message_verdict &cose_signature_input
+edge_authenticate_detached &cose_terms bytes bytes &cose_message_verdict &cose_signature_input
+edge_large_authenticate_detached &cose_terms bytes bytes &cose_message_verdict &cose_signature_input
 edge_verify_cwt bytes bytes &cose_policy bytes &cose_claims_set
 edge_large_verify_cwt bytes bytes &cose_policy bytes &cose_claims_set
 edge_claims bytes &cose_policy &cose_claims_set
@@ -127,6 +152,9 @@ table_begin address
 verifier_size -> usize
 verifier_align -> usize
 begin address
+edge_claim bytes i64 &cose_item
+edge_claim_named bytes bytes &cose_item
+edge_item_at bytes u64 &cose_item
 edge_read_keys bytes &cose_key_set
 edge_make &cose_maker i32 bytes bytes bytes u64 room &cose_made
 edge_make_piece &cose_maker bytes -> u64
@@ -136,6 +164,10 @@ edge_large_verify bytes bytes u8 bytes &cose_message_verdict &cose_signature_inp
 edge_verify_detached bytes bytes u8 bytes bytes &cose_message_verdict &cose_signature_input
 edge_large_verify_detached bytes bytes u8 bytes bytes &cose_message_verdict &cose_signature_input
 version -> u32
+edge_parameter u8 bytes u32 i64 &cose_item
+edge_large_parameter u8 bytes u32 i64 &cose_item
+edge_parameter_named u8 bytes u32 bytes &cose_item
+edge_large_parameter_named u8 bytes u32 bytes &cose_item
 edge_shape u8 bytes &cose_message_shape
 edge_large_open &cose_large_verifier bytes bytes u8 &cose_status
 edge_large_open_detached &cose_large_verifier bytes bytes u8 u64 &cose_status
@@ -151,6 +183,8 @@ large_verdict_for &cose_large_verifier u64 i32 &cose_message_verdict
 large_reset &cose_large_verifier
 large_taken &cose_large_verifier -> u64
 large_held &cose_large_verifier -> u64
+edge_large_header &cose_large_verifier u32 i64 room &cose_item
+edge_large_header_named &cose_large_verifier u32 bytes room &cose_item
 edge_open &cose_verifier bytes bytes u8 &cose_status
 edge_open_detached &cose_verifier bytes bytes u8 u64 &cose_status
 edge_feed &cose_verifier bytes &cose_fed
@@ -165,6 +199,8 @@ verdict_for &cose_verifier u64 i32 &cose_message_verdict
 reset &cose_verifier
 taken &cose_verifier -> u64
 held &cose_verifier -> u64
+edge_header &cose_verifier u32 i64 room &cose_item
+edge_header_named &cose_verifier u32 bytes room &cose_item
 edge_table_read &cose_table bytes &cose_key_set
 edge_table_verify &cose_table bytes u8 bytes &cose_message_verdict &cose_signature_input
 edge_table_verify_cwt &cose_table bytes &cose_policy bytes &cose_claims_set
@@ -250,6 +286,16 @@ class PolicyStruct(ctypes.Structure):
     """`struct cose_policy`"""
 
 
+@_struct("cose_terms")
+class TermsStruct(ctypes.Structure):
+    """`struct cose_terms`"""
+
+
+@_struct("cose_requirements")
+class RequirementsStruct(ctypes.Structure):
+    """`struct cose_requirements`"""
+
+
 @_struct("cose_range")
 class RangeStruct(ctypes.Structure):
     """`struct cose_range`"""
@@ -263,6 +309,11 @@ class DateStruct(ctypes.Structure):
 @_struct("cose_claims_set")
 class ClaimsStruct(ctypes.Structure):
     """`struct cose_claims_set`"""
+
+
+@_struct("cose_item")
+class ItemStruct(ctypes.Structure):
+    """`struct cose_item`"""
 
 
 @_struct("cose_fed")
@@ -330,7 +381,9 @@ def _check_version(library: ctypes.CDLL) -> None:
     version = (number >> 16, number >> 8 & 255, number & 255)
     if version != VERSION:
         wanted, found = (".".join(map(str, it)) for it in (VERSION, version))
-        raise LibraryNotFound(f"{library._name} has version {found}, and this package is for {wanted}")
+        raise LibraryNotFound(
+            f"{library._name} has version {found}, and this package is for {wanted}"
+        )
 
 
 def _large(name: str) -> str:

@@ -21,8 +21,8 @@ def _fields(kind: Struct, start: int = 0) -> Iterator[Tuple[int, Any]]:
             yield at, form
 
 
-def reader(kind: Struct) -> Callable[[Any], Numbers]:
-    """What reads the numbers of such a struct, in the order of its fields."""
+def reader(kind: Struct) -> Callable[..., Numbers]:
+    """What reads the numbers of such a struct, in the order of its fields, from a place of bytes on."""
     layout, end = "=", 0
     for at, form in _fields(kind):
         size, is_signed = ctypes.sizeof(form), form(-1).value < 0
@@ -32,9 +32,5 @@ def reader(kind: Struct) -> Callable[[Any], Numbers]:
 
 
 def places(kind: Struct) -> Dict[str, int]:
-    """By the name of a field: which of these numbers is its first."""
-    found, count = {}, 0
-    for name, form, *_ in kind._fields_:
-        found[name] = count
-        count += len(list(_fields(form))) if issubclass(form, ctypes.Structure) else 1
-    return found
+    """By the name of a field: the place of its first byte."""
+    return {name: getattr(kind, name).offset for name, *_ in kind._fields_}

@@ -1,5 +1,7 @@
 """The exceptions of this package."""
 
+import enum
+
 from .reasons import Reason
 
 
@@ -25,6 +27,39 @@ class ClaimsRefused(Refused):
     """The claims of an authentic message are refused. The place is relative to its payload."""
 
     subject = "claims"
+
+
+class Requirement(enum.IntEnum):
+    """What `cose.admit` requires of a token: first the claims that have to be present."""
+
+    ISS = 1
+    SUB = 2
+    AUD = 3
+    EXP = 4
+    NBF = 5
+    IAT = 6
+    CTI = 7
+    ISSUER = 8
+    SUBJECT = 9
+    AUDIENCE = 10
+    LIFETIME = 11
+    AGE = 12
+    ISSUED = 13
+
+
+class Unmet(Error):
+    """A token is authentic and in time, and a requirement isn't met: of several the first.
+
+    `place` is that of the claim's value in the payload, or 0 where the claim isn't there.
+    """
+
+    def __init__(self, requirement: Requirement, place: int) -> None:
+        super().__init__(requirement, place)
+        self.requirement = requirement
+        self.place = place
+
+    def __str__(self) -> str:
+        return f"requirement not met: {self.requirement.name} at {self.place}"
 
 
 class KeysRefused(Error):

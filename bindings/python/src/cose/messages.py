@@ -2,16 +2,33 @@
 
 from __future__ import annotations
 
-from ctypes import byref
-from dataclasses import dataclass
-from typing import NoReturn, Optional, Tuple
+from ctypes import byref, sizeof
+from dataclasses import dataclass, field
+from enum import IntEnum
+from typing import Any, NoReturn, Optional, Tuple, Union
 
-from . import _library
+from . import _calls, _library, cbor
 from ._answers import Ecdsa, fail, is_good
-from ._arguments import Algorithm, Buffer, Kind, bytes_of, wanted_of
-from ._library import ShapeStruct, SignInputStruct, Status, VerdictStruct, small
-from .keys import Keys, KeyTable, call_table, data_of
+from ._arguments import Algorithm, Buffer, Kind, bytes_of, number_of, text_of, wanted_of
+from ._library import ItemStruct, ShapeStruct, SignInputStruct, Status, VerdictStruct, small
+from ._numbers import reader
+from .keys import Keys, KeyTable, data_of
 from .verifier import Verifier
+
+
+class Label(IntEnum):
+    """The labels of header parameters: RFC 9052 section 3.1, and RFC 9360 section 2 for certificates."""
+
+    ALG = 1
+    CRIT = 2
+    CONTENT_TYPE = 3
+    KID = 4
+    IV = 5
+    PARTIAL_IV = 6
+    X5BAG = 32
+    X5CHAIN = 33
+    X5T = 34
+    X5U = 35
 
 
 @dataclass(frozen=True)
@@ -22,6 +39,36 @@ class Message:
     alg: Algorithm
     payload: bytes
     taken: int
+    # as it was received, the kind that was wanted, and whether its header may be large
+    _received: Tuple[bytes, int, bool] = field(default=(b"", 0, False), repr=False, compare=False)
+
+    def protected(self, label: Union[int, str]) -> Any:
+        """A parameter of the protected header, as `cose.cbor.decode` gives it: it is authentic.
+
+        Raises `KeyError` where it isn't there.
+        """
+        return self._parameter(label, 1)
+
+    def unprotected(self, label: Union[int, str]) -> Any:
+        """A parameter of the unprotected header, which is not authentic: anyone may have changed it.
+
+        Raises `KeyError` where it isn't there.
+        """
+        return self._parameter(label, 0)
+
+    def _parameter(self, label: Union[int, str], is_protected: int) -> Any:
+        data, wanted, large = self._received
+        calls, found = _library.large if large else small, ItemStruct()
+        if isinstance(label, str):
+            name = text_of(label, "label")
+            rest = (is_protected, name, len(name), byref(found))
+            calls.edge_parameter_named(wanted, data, len(data), *rest)
+        else:
+            number = number_of(label, "label", -(2**63), 2**63 - 1)
+            calls.edge_parameter(wanted, data, len(data), is_protected, number, byref(found))
+        if not found.present:
+            raise KeyError(label)
+        return cbor.decode(data[found.at : found.at + found.length])
 
 
 @dataclass(frozen=True)
@@ -34,23 +81,24 @@ class Shape:
     taken: int
 
 
-Answer = Tuple[VerdictStruct, SignInputStruct]
+_numbers_of = reader(VerdictStruct)
+# (to look a number up is faster than to call the enum, and a number compares faster than a member does)
+_KINDS = {it.value: it for it in Kind}
+_ALGORITHMS = {it.value: it for it in Algorithm}
+_AUTHENTIC, _SIGNED = Status.AUTHENTIC.value, Status.SIGNED.value
 
 
-def _read(keys: Keys, aad: bytes, wanted: int, message: bytes, large: bool) -> Answer:
-    verdict, sign_input = VerdictStruct(), SignInputStruct()
-    rest = (aad, len(aad), wanted, message, len(message), byref(verdict), byref(sign_input))
+def _read(keys: Keys, aad: bytes, wanted: int, message: bytes, large: bool) -> bytes:
+    """The verdict, and of a message that is signed what its signature is verified with."""
     if isinstance(keys, KeyTable) and not large:
-        call_table(keys, "edge_table_verify", *rest)
-    else:
-        calls, data = _library.large if large else small, data_of(keys)
-        calls.edge_verify(data, len(data), *rest)
-    return verdict, sign_input
+        with keys._block:
+            return _calls.table_verify(keys._block.at, aad, wanted, message)
+    return _calls.verify(data_of(keys), large, aad, wanted, message)
 
 
 def _read_detached(
     keys: Keys, aad: bytes, wanted: int, message: bytes, payload: bytes, large: bool
-) -> Answer:
+) -> bytes:
     verdict, sign_input = VerdictStruct(), SignInputStruct()
     calls, data = _library.large if large else small, data_of(keys)
     calls.edge_verify_detached(
@@ -66,7 +114,7 @@ def _read_detached(
         byref(verdict),
         byref(sign_input),
     )
-    return verdict, sign_input
+    return bytes(verdict) + bytes(sign_input)
 
 
 def _refuse_signature(
@@ -122,14 +170,15 @@ def verify(
     data, external, number = bytes_of(message, "message"), bytes_of(aad, "aad"), wanted_of(wanted)
     content = None if payload is None else bytes_of(payload, "payload")
     if content is None:
-        verdict, sign_input = _read(keys, external, number, data, large)
+        found = _read(keys, external, number, data, large)
     else:
-        verdict, sign_input = _read_detached(keys, external, number, data, content, large)
-    if verdict.status == Status.SIGNED:
-        if not is_good(sign_input, ecdsa):
+        found = _read_detached(keys, external, number, data, content, large)
+    status, _, kind, alg, _, at, length, taken = _numbers_of(found)
+    if status == _SIGNED:
+        if not is_good(SignInputStruct.from_buffer_copy(found, sizeof(VerdictStruct)), ecdsa):
             _refuse_signature(keys, external, number, data, content, large)
-    elif verdict.status != Status.AUTHENTIC:
-        fail(verdict)
+    elif status != _AUTHENTIC:
+        fail(VerdictStruct.from_buffer_copy(found))
     if content is None:
-        content = data[verdict.payload_at : verdict.payload_at + verdict.payload_length]
-    return Message(Kind(verdict.kind), Algorithm(verdict.alg), content, verdict.taken)
+        content = data[at : at + length]
+    return Message(_KINDS[kind], _ALGORITHMS[alg], content, taken, (data, number, large))

@@ -6,14 +6,15 @@ import time
 from ctypes import byref
 from dataclasses import dataclass
 from functools import partial
-from typing import Any, Optional, Tuple, Union, cast
+from struct import Struct
+from typing import Any, Callable, Optional, Tuple, Union, cast
 
-from . import _library, cbor
+from . import _calls, _library, cbor
 from ._answers import Ecdsa, fail
 from ._arguments import Buffer, Kind, bytes_of, number_of, text_of
-from ._library import ClaimsStruct, PolicyStruct, Status, small
+from ._library import ClaimsStruct, DateStruct, ItemStruct, PolicyStruct, Status, small
 from ._numbers import Numbers, places, reader
-from .keys import Keys, KeyTable, call_table, data_of
+from .keys import Keys, KeyTable, data_of
 from .messages import verify
 
 
@@ -38,71 +39,60 @@ class Confirmation:
     key: Optional[ConfirmationKey] = None
 
 
-class _Audience:
-    """The field `aud`: where it is a function, that is called when the field is read first."""
-
-    def __get__(self, claims: Optional[Claims], owner: object = None) -> Tuple[str, ...]:
-        if claims is None:
-            return ()
-        given = claims.__dict__["aud"]
-        if callable(given):
-            given = claims.__dict__["aud"] = given()
-        return cast(Tuple[str, ...], given)
-
-    def __set__(self, claims: Claims, value: object) -> None:
-        claims.__dict__["aud"] = value
+_new, _set = object.__new__, object.__setattr__
+_AT = places(ClaimsStruct)
+_PAYLOAD, _CNF_CRV, _CNF_Y_SIGN = (_AT[it] for it in ("payload_at", "cnf_crv", "cnf_y_sign"))
+# what reads two numbers of the library's answer, or a date, from a place on
+_pair_at, _date_at = Struct("=QQ").unpack_from, reader(DateStruct)
+Reader = Callable[..., Numbers]
 
 
-@dataclass(frozen=True)
-class Claims:
-    """The claims of an admitted token; those that aren't there are None, or no audience.
+def _range_of(name: str) -> Reader:
+    """What reads, from where it says where the payload begins on, that and a range of the payload."""
+    return Struct(f"=Q{_AT[name] - _PAYLOAD - 8}xQQB").unpack_from
 
-    `payload` has all claims, those too that have no name here, as CBOR. `aud` is decoded when it is
-    read first.
+
+class _Read:
+    """A field of `Claims` that is read of the library's answer where it is asked for first.
+
+    What is written into the object under the field's name goes before this.
     """
 
-    payload: bytes
-    iss: Optional[str] = None
-    sub: Optional[str] = None
-    aud: Tuple[str, ...] = cast(Any, _Audience())
-    exp: Optional[int] = None
-    nbf: Optional[int] = None
-    iat: Optional[int] = None
-    cti: Optional[bytes] = None
-    cnf: Optional[Confirmation] = None
+    def __init__(self, read: Callable[[Claims], object], *default: object) -> None:
+        self._read, self._default, self._name = read, default, ""
+
+    def __set_name__(self, owner: object, name: str) -> None:
+        self._name = name
+
+    def __get__(self, claims: Optional[Claims], owner: object = None) -> Any:
+        if claims is not None:
+            value = self._read(claims)
+            # (as the class's own __init__ writes, since it is frozen)
+            _set(claims, self._name, value)
+            return value
+        if self._default:
+            return self._default[0]
+        raise AttributeError(self._name)
 
 
-def _policy(now: Optional[int], leeway: int, audience: Optional[str]) -> PolicyStruct:
-    moment = int(time.time()) if now is None else number_of(now, "now", -(2**63), 2**63 - 1)
-    name = b"" if audience is None else text_of(audience, "audience")
-    seconds = number_of(leeway, "leeway", 0, 2**32 - 1)
-    return PolicyStruct(moment, seconds, audience is not None, name, len(name))
+def _payload(claims: Claims) -> bytes:
+    at, length = _pair_at(claims._found, _PAYLOAD)
+    return claims._token[at : at + length]
 
 
-# (a number by itself compares faster than a member does)
-_AUTHENTIC = Status.AUTHENTIC.value
-_numbers_of = reader(ClaimsStruct)
-_AT = places(ClaimsStruct)
-_PAYLOAD, _ISS, _SUB, _AUD, _AUD_COUNT = (_AT[it] for it in ("payload_at", "iss", "sub", "aud", "aud_count"))
-_EXP, _NBF, _IAT, _CTI = (_AT[it] for it in ("exp", "nbf", "iat", "cti"))
-_CNF_KID, _CNF_CRV, _CNF_X, _CNF_Y, _CNF_Y_SIGN = (
-    _AT[f"cnf_{it}"] for it in ("kid", "crv", "x", "y", "y_sign")
-)
+def _bytes(read: Reader, claims: Claims) -> Optional[bytes]:
+    """Those of a range, or None."""
+    begin, at, length, present = read(claims._found, _PAYLOAD)
+    return claims._token[begin + at : begin + at + length] if present else None
 
 
-def _bytes(payload: bytes, numbers: Numbers, place: int) -> Optional[bytes]:
-    """Those of a range, whose numbers begin at this place."""
-    at, length, present = numbers[place : place + 3]
-    return payload[at : at + length] if present else None
+def _text(read: Reader, claims: Claims) -> Optional[str]:
+    begin, at, length, present = read(claims._found, _PAYLOAD)
+    return claims._token[begin + at : begin + at + length].decode() if present else None
 
 
-def _text(payload: bytes, numbers: Numbers, place: int) -> Optional[str]:
-    at, length, present = numbers[place : place + 3]
-    return payload[at : at + length].decode() if present else None
-
-
-def _date(numbers: Numbers, place: int) -> Optional[int]:
-    number, present, negative = numbers[place : place + 3]
+def _date(place: int, claims: Claims) -> Optional[int]:
+    number, present, negative = _date_at(claims._found, place)
     if not present:
         return None
     return -1 - number if negative else number
@@ -128,30 +118,97 @@ def _texts(payload: bytes, at: int, length: int, count: int) -> Tuple[str, ...]:
     return tuple(found)
 
 
-def _confirmation(payload: bytes, numbers: Numbers) -> Optional[Confirmation]:
-    kid, crv, key = _bytes(payload, numbers, _CNF_KID), numbers[_CNF_CRV], None
+def _audience(read: Reader, claims: Claims) -> Tuple[str, ...]:
+    begin, at, length, _ = read(claims._found, _PAYLOAD)
+    return _texts(claims._token, begin + at, length, _pair_at(claims._found, _AT["aud_count"])[0])
+
+
+_cnf_kid, _cnf_x, _cnf_y = (_range_of(it) for it in ("cnf_kid", "cnf_x", "cnf_y"))
+
+
+def _confirmation(claims: Claims) -> Optional[Confirmation]:
+    kid, crv, key = _bytes(_cnf_kid, claims), claims._found[_CNF_CRV], None
     if crv:
-        x, y_sign = _bytes(payload, numbers, _CNF_X) or b"", numbers[_CNF_Y_SIGN]
-        y = y_sign == 2 if y_sign else _bytes(payload, numbers, _CNF_Y) or b""
+        x, y_sign = _bytes(_cnf_x, claims) or b"", claims._found[_CNF_Y_SIGN]
+        y: Union[bytes, bool] = y_sign == 2 if y_sign else _bytes(_cnf_y, claims) or b""
         key = ConfirmationKey(crv, x, y)
     return None if kid is None and key is None else Confirmation(kid, key)
 
 
-def _claims_of(payload: bytes, numbers: Numbers) -> Claims:
-    made = object.__new__(Claims)
-    # (the class's own __init__ sets each field by a call, since it is frozen)
-    made.__dict__.update(
-        payload=payload,
-        iss=_text(payload, numbers, _ISS),
-        sub=_text(payload, numbers, _SUB),
-        aud=partial(_texts, payload, numbers[_AUD], numbers[_AUD + 1], numbers[_AUD_COUNT]),
-        exp=_date(numbers, _EXP),
-        nbf=_date(numbers, _NBF),
-        iat=_date(numbers, _IAT),
-        cti=_bytes(payload, numbers, _CTI),
-        cnf=_confirmation(payload, numbers),
-    )
+def _item_at(payload: bytes, place: int) -> ItemStruct:
+    """The item at a place of claims that were read."""
+    found = ItemStruct()
+    small.edge_item_at(payload, len(payload), place, byref(found))
+    return found
+
+
+@dataclass(frozen=True)
+class Claims:
+    """The claims of an admitted token; those that aren't there are None, or no audience.
+
+    `payload` has all claims, those too that have no name here, as CBOR. What a token says is decoded
+    field by field, when it is read first.
+    """
+
+    payload: bytes = cast(Any, _Read(_payload))
+    iss: Optional[str] = cast(Any, _Read(partial(_text, _range_of("iss")), None))
+    sub: Optional[str] = cast(Any, _Read(partial(_text, _range_of("sub")), None))
+    aud: Tuple[str, ...] = cast(Any, _Read(partial(_audience, _range_of("aud")), ()))
+    exp: Optional[int] = cast(Any, _Read(partial(_date, _AT["exp"]), None))
+    nbf: Optional[int] = cast(Any, _Read(partial(_date, _AT["nbf"]), None))
+    iat: Optional[int] = cast(Any, _Read(partial(_date, _AT["iat"]), None))
+    cti: Optional[bytes] = cast(Any, _Read(partial(_bytes, _range_of("cti")), None))
+    cnf: Optional[Confirmation] = cast(Any, _Read(_confirmation, None))
+
+    # no fields: the bytes of a token or of a payload, and of the library's answer about it
+    _token = _found = b""
+
+    def value(self, label: Union[int, str]) -> Any:
+        """The claim of any label, as `cose.cbor.decode` gives it; raises `KeyError` where it isn't there."""
+        found, data = ItemStruct(), self.payload
+        if isinstance(label, str):
+            name = text_of(label, "label")
+            small.edge_claim_named(data, len(data), name, len(name), byref(found))
+        else:
+            number = number_of(label, "label", -(2**63), 2**63 - 1)
+            small.edge_claim(data, len(data), number, byref(found))
+        if not found.present:
+            raise KeyError(label)
+        return cbor.decode(data[found.at : found.at + found.length])
+
+    def labels(self) -> Tuple[Union[int, str], ...]:
+        """The labels of all claims, in the order of the token."""
+        data, found = self.payload, []
+        claims = _item_at(data, 0)
+        place = claims.content_at
+        for _ in range(claims.number):
+            label = _item_at(data, place)
+            value = _item_at(data, label.at + label.length)
+            found.append(cbor.decode(data[label.at : value.at]))
+            place = value.at + value.length
+        return tuple(found)
+
+
+def claims_of(token: bytes, found: bytes) -> Claims:
+    """The claims that the library found in a token, or in a payload."""
+    made = _new(Claims)
+    _set(made, "_token", token)
+    _set(made, "_found", found)
     return made
+
+
+Policy = Tuple[int, int, Optional[bytes]]
+
+
+def policy_of(now: Optional[int], leeway: int, audience: Optional[str]) -> Policy:
+    """The conditions under which a token is admitted, checked."""
+    moment = int(time.time()) if now is None else number_of(now, "now", -(2**63), 2**63 - 1)
+    name = None if audience is None else text_of(audience, "audience")
+    return moment, number_of(leeway, "leeway", 0, 2**32 - 1), name
+
+
+# (a number by itself compares faster than a member does)
+_AUTHENTIC, _SIGNED = Status.AUTHENTIC.value, Status.SIGNED.value
 
 
 def claims(
@@ -167,23 +224,21 @@ def claims(
     Raises `ClaimsRefused`.
     """
     data, found = bytes_of(payload, "payload"), ClaimsStruct()
-    policy = _policy(now, leeway, audience)
+    moment, seconds, name = policy_of(now, leeway, audience)
+    text = name or b""
+    policy = PolicyStruct(moment, seconds, name is not None, text, len(text))
     calls = _library.large if large else small
     calls.edge_claims(data, len(data), byref(policy), byref(found))
     if found.status != Status.AUTHENTIC:
         fail(found)
-    return _claims_of(data, _numbers_of(found))
+    return claims_of(data, bytes(found))
 
 
-def _read(keys: Keys, aad: bytes, policy: PolicyStruct, token: bytes, large: bool) -> ClaimsStruct:
-    found = ClaimsStruct()
-    rest = (aad, len(aad), byref(policy), token, len(token), byref(found))
+def _read(keys: Keys, aad: bytes, policy: Policy, token: bytes, large: bool) -> bytes:
     if isinstance(keys, KeyTable) and not large:
-        call_table(keys, "edge_table_verify_cwt", *rest)
-    else:
-        calls, data = _library.large if large else small, data_of(keys)
-        calls.edge_verify_cwt(data, len(data), *rest)
-    return found
+        with keys._block:
+            return _calls.table_verify_cwt(keys._block.at, aad, *policy, token)
+    return _calls.verify_cwt(data_of(keys), large, aad, *policy, token)
 
 
 def verify_cwt(
@@ -209,15 +264,12 @@ def verify_cwt(
     `SignatureUnverified` for a COSE_Sign1 without `ecdsa`.
     """
     data, external = bytes_of(token, "token"), bytes_of(aad, "aad")
-    policy = _policy(now, leeway, audience)
+    policy = policy_of(now, leeway, audience)
     if wanted is None:
         found = _read(keys, external, policy, data, large)
-        status = found.status
-        if status == _AUTHENTIC:
-            numbers = _numbers_of(found)
-            at, length = numbers[_PAYLOAD : _PAYLOAD + 2]
-            return _claims_of(data[at : at + length], numbers)
-        if status != Status.SIGNED:
-            fail(found)
+        if found[0] == _AUTHENTIC:
+            return claims_of(data, found)
+        if found[0] != _SIGNED:
+            fail(ClaimsStruct.from_buffer_copy(found))
     message = verify(keys, data, aad=external, wanted=wanted, ecdsa=ecdsa, large=large)
-    return claims(message.payload, now=policy.now, leeway=leeway, audience=audience, large=large)
+    return claims(message.payload, now=policy[0], leeway=leeway, audience=audience, large=large)

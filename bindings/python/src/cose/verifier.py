@@ -2,16 +2,30 @@
 
 from __future__ import annotations
 
-from ctypes import byref
+from ctypes import byref, create_string_buffer
 from dataclasses import dataclass
 from types import TracebackType
-from typing import Any, Optional, Type
+from typing import Any, Optional, Type, Union
 
-from . import _library
+from . import _calls, _library, cbor
 from ._answers import Ecdsa, fail, is_good
-from ._arguments import Algorithm, Buffer, Kind, bytes_of, number_of, wanted_of
-from ._library import Block, FedStruct, SignInputStruct, Status, StatusStruct, VerdictStruct, small
+from ._arguments import Algorithm, Buffer, Kind, bytes_of, number_of, text_of, wanted_of
+from ._library import (
+    Block,
+    FedStruct,
+    ItemStruct,
+    SignInputStruct,
+    Status,
+    StatusStruct,
+    VerdictStruct,
+    small,
+)
+from ._numbers import reader
 from .keys import Keys, data_of
+
+_numbers_of = reader(FedStruct)
+# what a message that may still be authentic has after a piece
+_GOES_ON = {it.value: it for it in (Status.MORE, Status.PAYLOAD_NEXT, Status.COMPLETE)}
 
 
 @dataclass(frozen=True)
@@ -63,7 +77,7 @@ class Verifier:
         ecdsa: Optional[Ecdsa] = None,
         large: bool = False,
     ) -> None:
-        self._calls = _library.large if large else small
+        self._is_large, self._calls = large, _library.large if large else small
         self._ecdsa = ecdsa
         # the library reads both until the verifier is closed
         self._keys, self._aad = data_of(keys), bytes_of(aad, "aad")
@@ -106,12 +120,13 @@ class Verifier:
 
     def feed(self, piece: Buffer) -> Fed:
         """Takes bytes of the message. Raises `Refused` once no further byte can change that."""
-        data, fed = bytes_of(piece, "piece"), FedStruct()
-        self._call("edge_feed", data, len(data), byref(fed))
-        status = Status(fed.status.status)
-        if status not in (Status.MORE, Status.PAYLOAD_NEXT, Status.COMPLETE):
-            fail(fed.status)
-        return Fed(fed.used, data[fed.payload_at : fed.payload_at + fed.payload_length], status)
+        data = bytes_of(piece, "piece")
+        with self._block:
+            found = _calls.feed(self._block.at, self._is_large, data)
+        status, _, _, used, at, length = _numbers_of(found)
+        if status not in _GOES_ON:
+            fail(FedStruct.from_buffer_copy(found).status)
+        return Fed(used, data[at : at + length], _GOES_ON[status])
 
     def feed_payload(self, piece: Buffer) -> int:
         """Takes bytes of a detached payload, and returns how many: 0 where none is wanted."""
@@ -142,6 +157,33 @@ class Verifier:
         return Verdict(
             Kind(verdict.kind), Algorithm(verdict.alg), verdict.payload_length, verdict.taken
         )
+
+    def protected(self, label: Union[int, str]) -> Any:
+        """A parameter of the protected header, once it is there, as `cose.Message.protected` gives it.
+
+        It is authentic only after the verdict. Raises `KeyError` where it isn't there.
+        """
+        return self._parameter(label, 1)
+
+    def unprotected(self, label: Union[int, str]) -> Any:
+        """A parameter of the unprotected header, which is not authentic: anyone may have changed it.
+
+        Raises `KeyError` where it isn't there.
+        """
+        return self._parameter(label, 0)
+
+    def _parameter(self, label: Union[int, str], is_protected: int) -> Any:
+        found, room = ItemStruct(), create_string_buffer(65_535 if self._is_large else 1_024)
+        rest = (room, len(room), byref(found))
+        if isinstance(label, str):
+            name = text_of(label, "label")
+            self._call("edge_header_named", is_protected, name, len(name), *rest)
+        else:
+            number = number_of(label, "label", -(2**63), 2**63 - 1)
+            self._call("edge_header", is_protected, number, *rest)
+        if not found.present:
+            raise KeyError(label)
+        return cbor.decode(room.raw[: found.length])
 
     def reset(self) -> None:
         """Begins the next message, under the same keys."""

@@ -1,6 +1,7 @@
 //! Calls the library through the crate.
 
 mod adapter;
+mod items;
 mod messages;
 mod parameters;
 mod pieces;

@@ -1,0 +1,104 @@
+/*
+ * The calls of cose.h under terms and requirements, as Go makes them. What Go passes in a struct has no pointers: bytes are apart.
+ */
+#ifndef COSE_GO_TERMS_H
+#define COSE_GO_TERMS_H
+
+#include "sized.h"
+
+/* Terms without keys and external data. */
+struct sized_terms {
+    uint8_t kind, permitted;
+    uint64_t least_secret, payload_limit;
+    int32_t algorithms[16];
+    int64_t understood[16];
+};
+
+/* Requirements without texts. */
+struct sized_requirements {
+    uint32_t leeway;
+    int64_t now;
+    uint64_t lifetime, age;
+    uint8_t present, permitted;
+};
+
+/* The texts of requirements. */
+struct sized_texts {
+    struct sized_bytes iss, sub, aud;
+};
+
+static inline struct cose_terms sized_terms_of(struct sized_terms terms, struct sized_bytes keys, struct sized_bytes aad)
+{
+    struct cose_terms given = {0};
+    given.size = sizeof given;
+    given.kind = terms.kind;
+    given.permitted = terms.permitted;
+    given.least_secret = terms.least_secret;
+    given.payload_limit = terms.payload_limit;
+    given.keys = keys.at;
+    given.keys_length = keys.length;
+    given.aad = aad.at;
+    given.aad_length = aad.length;
+    memcpy(given.algorithms, terms.algorithms, sizeof given.algorithms);
+    memcpy(given.understood, terms.understood, sizeof given.understood);
+    return given;
+}
+
+static inline struct cose_requirements sized_requirements_of(struct sized_requirements requirements, struct sized_texts texts)
+{
+    struct cose_requirements given = {0};
+    given.size = sizeof given;
+    given.leeway = requirements.leeway;
+    given.now = requirements.now;
+    given.lifetime = requirements.lifetime;
+    given.age = requirements.age;
+    given.iss = texts.iss.at;
+    given.iss_length = texts.iss.length;
+    given.sub = texts.sub.at;
+    given.sub_length = texts.sub.length;
+    given.aud = texts.aud.at;
+    given.aud_length = texts.aud.length;
+    given.present = requirements.present;
+    given.permitted = requirements.permitted;
+    return given;
+}
+
+static inline struct sized_answer sized_authenticate(bool large, struct sized_terms terms, struct sized_bytes keys, struct sized_bytes aad,
+    struct sized_bytes message)
+{
+    struct sized_answer answer = {0};
+    struct cose_terms given = sized_terms_of(terms, keys, aad);
+    (large ? cose_large_authenticate : cose_authenticate)(&given, message.at, message.length, &answer.verdict, &answer.input);
+    return answer;
+}
+
+static inline struct sized_answer sized_authenticate_detached(bool large, struct sized_terms terms, struct sized_bytes keys,
+    struct sized_bytes aad, struct sized_bytes message, struct sized_bytes payload)
+{
+    struct sized_answer answer = {0};
+    struct cose_terms given = sized_terms_of(terms, keys, aad);
+    (large ? cose_large_authenticate_detached : cose_authenticate_detached)(&given, message.at, message.length, payload.at,
+        payload.length, &answer.verdict, &answer.input);
+    return answer;
+}
+
+static inline struct cose_claims_set sized_admit(bool large, struct sized_terms terms, struct sized_bytes keys, struct sized_bytes aad,
+    struct sized_requirements requirements, struct sized_bytes iss, struct sized_bytes sub, struct sized_bytes aud, struct sized_bytes token)
+{
+    struct cose_claims_set claims = {0};
+    struct cose_terms given = sized_terms_of(terms, keys, aad);
+    struct cose_requirements required = sized_requirements_of(requirements, (struct sized_texts){iss, sub, aud});
+    (large ? cose_large_admit : cose_admit)(&given, &required, token.at, token.length, &claims);
+    return claims;
+}
+
+static inline struct cose_claims_set sized_admit_claims(bool large, struct sized_requirements requirements, struct sized_bytes iss,
+    struct sized_bytes sub, struct sized_bytes aud, struct sized_bytes payload)
+{
+    struct cose_claims_set claims = {0};
+    struct cose_requirements required = sized_requirements_of(requirements, (struct sized_texts){iss, sub, aud});
+    (large ? cose_large_admit_claims : cose_admit_claims)(&required, payload.at, payload.length, &claims);
+    return claims;
+}
+
+#endif

@@ -1,0 +1,82 @@
+// Messages and tokens under what a caller states and requires: what the rows of terms.json don't ask.
+import assert from "node:assert/strict";
+import { createHmac } from "node:crypto";
+import { test } from "node:test";
+import { load, Refused, STATUS, UNMET, WANTED } from "../index.mjs";
+
+const cose = await load();
+const SECRET = Buffer.from("a secret of the tests");
+const KEYS = Buffer.concat([Buffer.from("a301040305", "hex"), Buffer.from([0x20, 0x40 + SECRET.length]), SECRET]);
+const NOW = 1444064943;
+/** {1: "as", 4: NOW + 1} */
+const CLAIMS = Buffer.from("a20162" + "6173" + "041a5612aeb0", "hex");
+
+/** A byte string of less than 24 bytes, with its head. */
+const short = (bytes) => Buffer.concat([Buffer.from([0x40 + bytes.length]), bytes]);
+
+/** A COSE_Mac0 with HMAC 256/256 under `KEYS`: its tag is of the MAC_structure (RFC 9052 section 6.3). */
+function mac0(payload, { aad = Buffer.alloc(0), tag = "d1", detached = false } = {}) {
+    const structure = Buffer.concat([Buffer.from("84644d41433043a10105", "hex"), short(aad), short(payload)]);
+    const mac = createHmac("sha256", SECRET).update(structure).digest();
+    const content = detached ? Buffer.from("f6", "hex") : short(payload);
+    return Buffer.concat([Buffer.from(`${tag}8443a10105a0`, "hex"), content, Buffer.from("5820", "hex"), mac]);
+}
+
+/** A refusal of these numbers. */
+const refused = (status, reason, place) => (error) =>
+    error instanceof Refused && error.status === status && error.reason === reason && error.place === place;
+
+test("external data, the kind, a detached payload and large headers are those of verify", async () => {
+    const aad = Buffer.from("data");
+    const hi = Buffer.from("hi");
+    for (const large of [false, true]) {
+        assert.deepEqual(Buffer.from(await cose.authenticPayload(KEYS, mac0(hi, { aad }), { aad, large })), hi);
+        const untagged = mac0(hi, { tag: "" });
+        assert.deepEqual(Buffer.from(await cose.authenticPayload(KEYS, untagged, { wanted: WANTED.MAC0, large })), hi);
+        const detached = mac0(hi, { detached: true });
+        assert.deepEqual(Buffer.from(await cose.authenticPayload(KEYS, detached, { payload: hi, large })), hi);
+        await assert.rejects(cose.authenticPayload(KEYS, detached, { large }), refused("REFUSED", "Detached", 7));
+        await assert.rejects(cose.authenticPayload(KEYS, mac0(hi, { aad }), { large }), refused("REFUSED", "BadAuth", 10));
+    }
+});
+
+test("a token that doesn't meet what is required is refused for it", async () => {
+    const token = mac0(CLAIMS);
+    assert.equal((await cose.admitted(KEYS, token, { now: NOW, issuer: "as" })).iss, "as");
+    await assert.rejects(cose.admitted(KEYS, token, { now: NOW, issuer: "a" }), refused("UNMET", "issuer", 2));
+    await assert.rejects(cose.admitted(KEYS, token, { now: NOW, present: ["cti"] }), refused("UNMET", "cti", 0));
+    // by default the time is that of the machine's clock
+    await assert.rejects(cose.admitted(KEYS, token), refused("CLAIMS_REFUSED", "Expired", 6));
+    const claims = cose.admitClaims(CLAIMS, { now: NOW, audience: "b" });
+    assert.deepEqual([claims.status, UNMET[claims.reason], claims.place], [STATUS.UNMET, "audience", 0]);
+});
+
+test("what is out of its range is no argument", () => {
+    const terms = [
+        { algorithms: [] },
+        { algorithms: [0] },
+        { algorithms: Array(17).fill(5) },
+        { algorithms: [2 ** 31] },
+        { understood: [0] },
+        { understood: [2n ** 63n] },
+        { payloadLimit: 0 },
+        { leastSecret: -1 },
+        { wanted: 256 },
+    ];
+    for (const options of terms) assert.throws(() => cose.authenticate(KEYS, mac0(CLAIMS), options), RangeError);
+    const requirements = [
+        { issuer: "" },
+        { subject: "" },
+        { audience: "" },
+        { present: ["issuer"] },
+        { present: ["scope"] },
+        { maxLifetime: 0 },
+        { maxAge: 0n },
+        { leeway: -1 },
+        { now: 2n ** 63n },
+        { now: undefined },
+    ];
+    for (const options of requirements) assert.throws(() => cose.admitClaims(CLAIMS, { now: NOW, ...options }), RangeError);
+    assert.equal(cose.admitClaims(CLAIMS, { now: 0 }).status, STATUS.BAD_ARGUMENT);
+    assert.equal(cose.authenticate(KEYS, mac0(CLAIMS), { wanted: 1 }).status, STATUS.BAD_ARGUMENT);
+});

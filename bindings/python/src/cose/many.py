@@ -1,0 +1,91 @@
+"""Many tokens at once."""
+
+from __future__ import annotations
+
+import itertools
+import mmap
+from typing import Callable, Iterable, Iterator, List, Optional, Tuple, Union
+
+from . import _calls
+from ._answers import Ecdsa, error_of
+from ._arguments import Buffer, bytes_of
+from ._library import ClaimsStruct, Status
+from .errors import Refused, SignatureUnverified
+from .keys import Keys, KeyTable, data_of
+from .tokens import Claims, claims_of, policy_of, verify_cwt
+
+Answer = Union[Claims, Refused, SignatureUnverified]
+# tokens that are verified in one call, during which other threads run
+_BATCH = 256
+_AUTHENTIC, _SIGNED = Status.AUTHENTIC.value, Status.SIGNED.value
+
+
+def _batches(tokens: Union[Buffer, Iterable[Buffer]]) -> Iterator[Tuple[bytes, ...]]:
+    """The tokens, so many at a time as one call takes."""
+    if isinstance(tokens, (bytes, bytearray, memoryview, mmap.mmap)):
+        return _batches_of_sequence(bytes_of(tokens, "tokens"))
+    each = iter(tokens)
+    return iter(lambda: tuple(map(_token, itertools.islice(each, _BATCH))), ())
+
+
+def _token(token: Buffer) -> bytes:
+    return token if type(token) is bytes else bytes_of(token, "a token")
+
+
+def _batches_of_sequence(data: bytes) -> Iterator[Tuple[bytes, ...]]:
+    at = 0
+    while batch := _calls.items(data, at, _BATCH):
+        at += sum(map(len, batch))
+        yield batch
+
+
+def _answer(token: bytes, found: bytes, by_itself: Callable[[bytes], Claims]) -> Answer:
+    """What is returned of a token that the library hasn't admitted."""
+    try:
+        if found[0] == _SIGNED:
+            return by_itself(token)
+        raise error_of(ClaimsStruct.from_buffer_copy(found))
+    except (Refused, SignatureUnverified) as error:
+        return error.with_traceback(None)
+
+
+def verify_many(
+    keys: Keys,
+    tokens: Union[Buffer, Iterable[Buffer]],
+    *,
+    now: Optional[int] = None,
+    leeway: int = 0,
+    audience: Optional[str] = None,
+    aad: Buffer = b"",
+    ecdsa: Optional[Ecdsa] = None,
+) -> List[Answer]:
+    """Verifies CBOR Web Tokens, each as `cose.verify_cwt` does, and returns what became of each.
+
+    In the order of the tokens: the admitted claims, or the error that `cose.verify_cwt` would raise,
+    a `Refused` or a `SignatureUnverified`.
+
+    keys: a COSE_Key, a COSE_KeySet, or a `KeyTable`: at most 64 usable keys, which are read once.
+    tokens: any iterable of tokens, or a CBOR sequence (RFC 8742) of them as bytes. Where a sequence
+        has no whole item of CBOR, the rest of it is its last token.
+    now, leeway, audience, aad, ecdsa: as in `cose.verify_cwt`.
+
+    While the library verifies tokens, other threads run: several may call this at once. Raises
+    `KeysRefused`.
+    """
+    policy, external = policy_of(now, leeway, audience), bytes_of(aad, "aad")
+    # a table of its own, since one call at a time uses it
+    table = KeyTable(data_of(keys))
+    answers: List[Answer] = []
+
+    def by_itself(token: bytes) -> Claims:
+        given = {"leeway": leeway, "audience": audience, "aad": external, "ecdsa": ecdsa}
+        return verify_cwt(table, token, now=policy[0], **given)  # type: ignore[arg-type]
+
+    for batch in _batches(tokens):
+        with table._block:
+            found = _calls.table_verify_cwts(table._block.at, external, *policy, batch)
+        answers += [
+            claims_of(it, of_it) if of_it[0] == _AUTHENTIC else _answer(it, of_it, by_itself)
+            for it, of_it in zip(batch, found)
+        ]
+    return answers
