@@ -19,8 +19,12 @@ def losses_of(folder, files):
 READ = "_read(keys, external, number, data, large)"
 DETACHED = "_read_detached(keys, external, number, data, content, large)"
 REFUSE = "_refuse_signature(keys, external, number, data, content, large)"
-CLAIMS = "claims(message.payload, now=policy.now, leeway=leeway, audience=audience, large=large)"
+CLAIMS = "claims(message.payload, now=policy[0], leeway=leeway, audience=audience, large=large)"
 SIGNED = "verify(keys, data, aad=external, wanted=wanted, ecdsa=ecdsa, large=large)"
+GIVEN = "policy_of(now, leeway, audience)"
+POLICY = 'return moment, number_of(leeway, "leeway", 0, 2**32 - 1), name'
+BY_ITSELF = '{"leeway": leeway, "audience": audience, "aad": external, "ecdsa": ecdsa}'
+TABLE = "table_verify_cwts(table._block.at, external, *policy, batch)"
 MAKER = "Maker(key, len(data), alg=alg, kid=kid, aad=aad)"
 PYTHON = losses_of(
     "bindings/python/src/cose",
@@ -33,7 +37,7 @@ PYTHON = losses_of(
             ("verify, detached: wanted", DETACHED, DETACHED.replace("number", "0")),
             ("verify, detached: payload", DETACHED, DETACHED.replace("content", 'b""')),
             ("verify, detached: large", DETACHED, DETACHED.replace("large", "False")),
-            ("verify: ecdsa", "if not is_good(sign_input, ecdsa):", "if False:"),
+            ("verify: ecdsa", "if not is_good(SignInputStruct.from_buffer_copy(found, sizeof(VerdictStruct)), ecdsa):", "if False:"),
             ("verify, a bad signature: wanted", REFUSE, REFUSE.replace("number", "0")),
             ("verify, a bad signature: payload", REFUSE, REFUSE.replace("content", "None")),
             ("verify, a bad signature: large", REFUSE, REFUSE.replace("large", "False")),
@@ -41,14 +45,14 @@ PYTHON = losses_of(
         ],
         "tokens.py": [
             ("claims and verify_cwt: now", "number_of(now,", "number_of(0 * now,"),
-            ("claims and verify_cwt: leeway", "PolicyStruct(moment, seconds,", "PolicyStruct(moment, 0,"),
-            ("claims and verify_cwt: audience", "audience is not None, name,", "False, name,"),
-            ("claims: now", "policy = _policy(now, leeway, audience)\n    calls", "policy = _policy(None, leeway, audience)\n    calls"),
-            ("claims: leeway", "policy = _policy(now, leeway, audience)\n    calls", "policy = _policy(now, 0, audience)\n    calls"),
-            ("claims: audience", "policy = _policy(now, leeway, audience)\n    calls", "policy = _policy(now, leeway, None)\n    calls"),
+            ("policies: leeway", POLICY, "return moment, 0, name"),
+            ("policies: audience", POLICY, POLICY.replace(", name", ", None")),
+            ("claims: leeway", "PolicyStruct(moment, seconds,", "PolicyStruct(moment, 0,"),
+            ("claims: audience", "name is not None, text,", "False, text,"),
+            ("claims: now", f"moment, seconds, name = {GIVEN}", f"moment, seconds, name = {GIVEN.replace('now', 'None')}"),
             ("claims: large", "calls = _library.large if large else small\n    calls.edge_claims", "calls = small\n    calls.edge_claims"),
-            ("verify_cwt: leeway", "policy = _policy(now, leeway, audience)\n    if wanted", "policy = _policy(now, 0, audience)\n    if wanted"),
-            ("verify_cwt: audience", "policy = _policy(now, leeway, audience)\n    if wanted", "policy = _policy(now, leeway, None)\n    if wanted"),
+            ("verify_cwt: leeway", f"policy = {GIVEN}", f"policy = {GIVEN.replace('leeway', '0')}"),
+            ("verify_cwt: audience", f"policy = {GIVEN}", f"policy = {GIVEN.replace('audience', 'None')}"),
             ("verify_cwt: aad", "_read(keys, external, policy, data, large)", '_read(keys, b"", policy, data, large)'),
             ("verify_cwt: large", "_read(keys, external, policy, data, large)", "_read(keys, external, policy, data, False)"),
             ("verify_cwt: wanted", "if wanted is None:", "if True:"),
@@ -56,19 +60,35 @@ PYTHON = losses_of(
             ("verify_cwt, signed: wanted", SIGNED, SIGNED.replace("wanted=wanted, ", "")),
             ("verify_cwt, signed: large", SIGNED, SIGNED.replace(", large=large", "")),
             ("verify_cwt, signed: ecdsa", SIGNED, SIGNED.replace("ecdsa=ecdsa", "ecdsa=lambda _: True")),
-            ("verify_cwt, signed: now", CLAIMS, CLAIMS.replace("now=policy.now, ", "")),
+            ("verify_cwt, signed: now", CLAIMS, CLAIMS.replace("now=policy[0], ", "")),
             ("verify_cwt, signed: leeway", CLAIMS, CLAIMS.replace("leeway=leeway, ", "")),
             ("verify_cwt, signed: audience", CLAIMS, CLAIMS.replace("audience=audience, ", "")),
             ("verify_cwt, signed: large claims", CLAIMS, CLAIMS.replace(", large=large", "")),
         ],
+        "many.py": [
+            ("verify_many: now", f"policy, external = {GIVEN}", f"policy, external = {GIVEN.replace('now', 'None')}"),
+            ("verify_many: leeway", f"policy, external = {GIVEN}", f"policy, external = {GIVEN.replace('leeway', '0')}"),
+            ("verify_many: audience", f"policy, external = {GIVEN}", f"policy, external = {GIVEN.replace('audience', 'None')}"),
+            ("verify_many: aad", TABLE, TABLE.replace("external", 'b""')),
+            ("verify_many, signed: now", "now=policy[0]", "now=None"),
+            ("verify_many, signed: leeway", BY_ITSELF, BY_ITSELF.replace("leeway,", "0,")),
+            ("verify_many, signed: audience", BY_ITSELF, BY_ITSELF.replace("audience,", "None,")),
+            ("verify_many, signed: aad", BY_ITSELF, BY_ITSELF.replace("external", 'b""')),
+            ("verify_many, signed: ecdsa", BY_ITSELF, BY_ITSELF.replace("ecdsa}", "lambda _: True}")),
+        ],
+        "keys.py": [
+            ("from_secret: kid", "if kid is not None:", "if False:"),
+            ("from_secret: alg", "if alg is not None:", "if False:"),
+        ],
         "verifier.py": [
-            ("Verifier: large", "self._calls = _library.large if large else small", "self._calls = small"),
+            ("Verifier: large", "large, _library.large if large else small", "False, small"),
             ("Verifier: ecdsa", "self._ecdsa = ecdsa", "self._ecdsa = lambda _: True"),
             ("Verifier: aad", 'data_of(keys), bytes_of(aad, "aad")', 'data_of(keys), b""'),
             ("Verifier: wanted", "self._open(wanted_of(wanted), payload_length)", "self._open(0, payload_length)"),
             ("Verifier: payload_length", "self._open(wanted_of(wanted), payload_length)", "self._open(wanted_of(wanted), None)"),
             ("Verifier: the stated payload_length", "*given, length, byref(status)", "*given, 2, byref(status)"),
-            ("feed: used", "return Fed(fed.used,", "return Fed(len(data),"),
+            ("Verifier: large of feed", "self._is_large, data)", "False, data)"),
+            ("feed: used", "return Fed(used,", "return Fed(len(data),"),
             ("feed_payload: used", "return used\n\n    def end", "return len(data)\n\n    def end"),
         ],
         "making.py": [
