@@ -197,7 +197,9 @@ fn run_under_set<'k, const H: usize, const D: usize>(
         let mut fed = under_set::<H, D>(setting, set, case.length);
         holds(is_fed(&mut fed, case, cut), Way::Feed)?;
         let mut asking = Verifier::<H, D>::elsewhere_detached(setting.context(set), case.length);
-        holds(is_stated(&mut asking, case, cut), Way::Elsewhere)?;
+        if cut > 0 {
+            holds(is_stated(&mut asking, case, cut), Way::Elsewhere)?;
+        }
     }
     if !case.expected.is_authentic() {
         return Ok(());

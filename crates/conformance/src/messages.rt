@@ -207,7 +207,9 @@ fn run_under_set<'k, const H: usize, const D: usize>(
         let mut fed = under_set::<H, D>(setting, set);
         holds(is_fed(&mut fed, case, cut), Way::Feed)?;
         let mut asking = Verifier::<H, D>::elsewhere(setting.context(set));
-        holds(is_stated(&mut asking, case, cut), Way::Elsewhere)?;
+        if cut > 0 {
+            holds(is_stated(&mut asking, case, cut), Way::Elsewhere)?;
+        }
     }
     let mut verifier = under_set::<H, D>(setting, set);
     holds(is_read(&mut verifier, case), Way::Slice)
