@@ -1,5 +1,5 @@
 -- The arguments and the numbers of a call, on examples, by computing.
-use Rattle.std.specs.Prelude.{ℕ, pos, negsuc, List, [], ◌∷◌, map, replicate, Ok, Err, refl, ◌≡◌}
+use Rattle.std.specs.Prelude.{ℕ, pos, negsuc, List, [], ◌∷◌, map, replicate, Some, None, Ok, Err, refl, ◌≡◌}
 use Rattle.cose_head.specs.declared.algorithm.Alg.TheVariants.{Hmac256, Es256}
 use Rattle.cose_head.specs.declared.kind.Kind.TheVariants as kinds
 use Rattle.cose_head.specs.declared.reason.Reason.TheVariants.{BadAuth, BadKeySet, Trailing}
@@ -14,6 +14,7 @@ use Rattle.cose_map.specs.Key.Form.{key_table}
 use Rattle.cose_map.specs.Key.Material.{material_of}
 use Rattle.cose_map.specs.Key.Value.{KeyValue}
 use Rattle.cose_map.specs.KeySet.{keys_of}
+use Rattle.cose_c.specs.Item.{item_numbers, no_item}
 use Rattle.cose_c.specs.Shape.{no_keys}
 use Rattle.cose_msg.specs.declared.context.Wanted.TheVariants.{Mac0, Sign1, Tagged}
 use Rattle.cose_msg.specs.declared.verdict.Verdict.TheVariants.{Authentic}
@@ -71,3 +72,15 @@ keys_read bytes = keys_of bytes
 without_keys : keys_read no_keys ≡ Ok []
 unfolding keys_read
 without_keys = refl
+
+-- The text string "hi" at place 7 has three bytes, of which two follow its head; the integer -5 is one byte; and where nothing is, zeros.
+text_item : item_numbers (Some (record { bytes = 98 ∷ 104 ∷ 105 ∷ []; place = 7 })) ≡ record { at = 7; length = 3; content_at = 8; number = 2; present = 1; major = 3 }
+unfolding head_of_item bare_head
+text_item = refl
+
+negative_item : item_numbers (Some (record { bytes = 36 ∷ []; place = 0 })) ≡ record { at = 0; length = 1; content_at = 1; number = 4; present = 1; major = 1 }
+unfolding head_of_item bare_head
+negative_item = refl
+
+no_item_here : item_numbers None ≡ no_item
+no_item_here = refl

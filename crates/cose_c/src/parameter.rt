@@ -134,8 +134,8 @@ pub extern "C" fn cose_edge_parameter(
 )
     ensures { item.new
         ≡ item_numbers
-        (parameter_given 1024 8 (setting_given (keys_of no_keys) [] wanted) (not (is_protected == 0))
-        (number label) message.now) }
+        (parameter_given 1024 8 (setting_given (keys_of no_keys) [] wanted)
+        (not (is_protected == 0)) (number label) message.now) }
 {
     *item = match context(NO_KEYS, b"", wanted) {
         Ok(context) => {
@@ -158,8 +158,8 @@ pub extern "C" fn cose_edge_large_parameter(
 )
     ensures { item.new
         ≡ item_numbers
-        (parameter_given 65535 16 (setting_given (keys_of no_keys) [] wanted) (not (is_protected == 0))
-        (number label) message.now) }
+        (parameter_given 65535 16 (setting_given (keys_of no_keys) [] wanted)
+        (not (is_protected == 0)) (number label) message.now) }
 {
     *item = match context(NO_KEYS, b"", wanted) {
         Ok(context) => {
@@ -182,8 +182,8 @@ pub extern "C" fn cose_edge_parameter_named(
 )
     ensures { item.new
         ≡ item_numbers
-        (parameter_named 1024 8 (setting_given (keys_of no_keys) [] wanted) (not (is_protected == 0))
-        name.now message.now) }
+        (parameter_named 1024 8 (setting_given (keys_of no_keys) [] wanted)
+        (not (is_protected == 0)) name.now message.now) }
 {
     let Some(name) = utf8(name) else {
         *item = no_item();

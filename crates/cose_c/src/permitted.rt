@@ -70,7 +70,8 @@ fn is_one_of(algorithms: &[i32], own: Option<Label<'_>>) -> bool
 impl Permission<'_> {
     /// Whether a key that names this algorithm is permitted, where none is stated.
     fn permits_named(&self, own: Label<'_>) -> bool
-        ensures { result ≡ spec.permits_named (permission_value self.entry.now) (label_value own.entry) }
+        ensures { result
+            ≡ spec.permits_named (permission_value self.entry.now) (label_value own.entry) }
     {
         match own {
             Label::Int(number) => number != SHORT_MAC || self.short_mac,
@@ -80,7 +81,8 @@ impl Permission<'_> {
 
     /// Whether a key that names no algorithm is permitted, where none is stated. A secret could be used with HMAC 256/64 too.
     fn permits_unnamed(&self, material: &Material<'_>) -> bool
-        ensures { result ≡ spec.permits_unnamed (permission_value self.entry.now) (material_value material.now) }
+        ensures { result
+            ≡ spec.permits_unnamed (permission_value self.entry.now) (material_value material.now) }
     {
         match material {
             Material::Symmetric(_) => self.without_alg && self.short_mac,
@@ -90,7 +92,8 @@ impl Permission<'_> {
 
     /// Whether the algorithm of a key is permitted.
     fn permits_algorithm(&self, key: &Key<'_>) -> bool
-        ensures { result ≡ spec.permits_algorithm (permission_value self.entry.now) (key_value key.now) }
+        ensures { result
+            ≡ spec.permits_algorithm (permission_value self.entry.now) (key_value key.now) }
     {
         if is_stated(self.algorithms) {
             return is_one_of(self.algorithms, key.alg);
@@ -103,7 +106,8 @@ impl Permission<'_> {
 
     /// Whether a secret is long enough. Points have the length of their curve.
     fn permits_material(&self, material: &Material<'_>) -> bool
-        ensures { result ≡ allows_material self.entry.now.least_secret (material_value material.now) }
+        ensures { result
+            ≡ allows_material self.entry.now.least_secret (material_value material.now) }
     {
         match material {
             Material::Symmetric(secret) => self.least_secret <= secret.len() as u64,

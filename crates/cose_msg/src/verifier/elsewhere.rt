@@ -86,7 +86,8 @@ impl<'k, const H: usize, const D: usize, S: Keys<'k>> Verifier<'k, H, D, S> {
     /// the payload's head was read and until the verdict: what the caller hashes, and after it the payload as it comes.
     pub fn front_pieces(&self) -> Option<FrontPieces<'_>>
         // Whatever bytes follow, they and the payload are the structure.
-        ensures front { IfSome result (λ pieces. WhateverAsked self.now (λ setting taken payload_so_far.
+        ensures front { IfSome result (λ pieces.
+            WhateverAsked self.now (λ setting taken payload_so_far.
             HoweverItGoesOn H D setting taken payload_so_far (λ reading.
             IsFrontOf setting.aad reading (concat (pieces_of pieces))))) }
         ensures some { WhateverAsked self.now (λ _ _ _. is_some result ≡ is_framed self.now) }
@@ -97,7 +98,8 @@ impl<'k, const H: usize, const D: usize, S: Keys<'k>> Verifier<'k, H, D, S> {
     /// The key that fits the message, as it is in the keys, and the algorithm that it is used with, once the payload's head was
     /// read and until the verdict. A symmetric key's bytes may be any handle of the caller's: they are not used.
     pub fn asked_key(&self) -> Option<(Key<'k>, Alg)>
-        ensures key { IfSome result (λ asked. WhateverAsked self.now (λ setting taken payload_so_far.
+        ensures key { IfSome result (λ asked.
+            WhateverAsked self.now (λ setting taken payload_so_far.
             HoweverItGoesOn H D setting taken payload_so_far (λ reading.
             AsksKey reading (key_asked asked)))) }
         ensures some { WhateverAsked self.now (λ _ _ _. is_some result ≡ is_framed self.now) }

@@ -6,7 +6,6 @@ use Rattle.cose_c.specs.Item.{claim_in, item_numbers}
 use Rattle.cose_c.proofs.Items.{claim_holds}
 use Rattle.cose_c.proofs.item.claim.Goals as goal
 
--- src/item.rt:69:1
 pub returns-in-Ok-clause-holds : goal.returns-in-Ok-clause-holds
 returns-in-Ok-clause-holds c =
     let label = label_value c.args.label.now in
