@@ -241,7 +241,8 @@ impl NewFiles for HostFiles {
     ghost use Rattle.std.specs.Prelude.{false, option_map};
     ghost use Rattle.cosecmd.specs.HostFile.{made_file};
 
-    ghost made = { λ files. record { is_taken = files.is_taken; file = option_map made_file files.file } };
+    ghost made = { λ files.
+        record { is_taken = files.is_taken; file = option_map made_file files.file } };
 
     ghost is_known = { false };
 
