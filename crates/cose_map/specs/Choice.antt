@@ -1,6 +1,7 @@
 -- Which key authenticates a message, and by which algorithm (RFC 9052 section 7.1).
 pub mod Algorithm
 pub mod Mismatch
+pub mod Place
 pub mod View
 use Rattle.std.specs.Prelude.{ℕ, ℤ, Bool, true, false, ◌&&◌, List, [], ◌∷◌, Option, Some, None, Result, Ok, Err, is_some, filter_map, if◌then◌else◌}
 use Rattle.std.specs.List.{list_any}

@@ -38,9 +38,14 @@ key_with pairs material = record {
   material = material;
 }
 
+-- A key by its members, or why these are no key.
+abbrev pub key_by : Placed → List Pair → Read KeyValue
+key_by key pairs = do
+  material ← material_of key pairs
+  Ok (key_with pairs material)
+
 -- A key, or its first fault.
 unfoldable pub key_of : Placed → Read KeyValue
 key_of key = do
   pairs ← read_map key_table 8 key
-  material ← material_of key pairs
-  Ok (key_with pairs material)
+  key_by key pairs

@@ -2,6 +2,8 @@
 pub mod Allowed
 pub mod Inside
 pub mod Least
+pub mod Place
+pub mod Points
 pub mod Reasons
 pub mod Tree
 pub mod Chosen

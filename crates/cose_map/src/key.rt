@@ -36,9 +36,10 @@ pub struct Key<'a> {
 
 impl<'a> Key<'a> {
     ghost use Rattle.std.specs.Prelude.{◌≡◌, ◌+◌, ◌<◌, ◌≤◌, ◌^◌, length, Ok, IfErr};
-    ghost use Rattle.cose_map.specs.Key.{key_of};
+    ghost use Rattle.cose_head.specs.ItemRef.{placed};
+    ghost use Rattle.cose_map.specs.Key.{key_by, key_of};
     ghost use Rattle.cose_map.specs.Key.View.{key_value};
-    ghost use Rattle.cose_map.specs.Map.View.{seen_by};
+    ghost use Rattle.cose_map.specs.Map.View.{pairs_left, seen_by};
 
     /// The key that a map is.
     #[tactic(auto, unfolding(crate::specs::Key::key_of))]
@@ -48,7 +49,15 @@ impl<'a> Key<'a> {
     {
         let key = ItemRef::read(bytes, at, NESTING)?;
         let pairs = check_map(&KeyForm, &key)?;
-        let members = Members { key, pairs };
+        Key::of_members(&Members { key, pairs })
+    }
+
+    /// The key that has these members. Not inlined, so that its values aren't on the stack while the members are checked.
+    #[inline(never)]
+    fn of_members(members: &Members<'a>) -> Result<Key<'a>, Refusal>
+        ensures { seen_by key_value result
+            ≡ key_by (placed members.now.key) (pairs_left members.now.pairs) }
+    {
         let material = members.material()?;
         Ok(Key {
             kid: members.bytes(&labels::KID),

@@ -36,6 +36,7 @@ pub(crate) fn usable<'a>(item: &ItemRef<'a>) -> Option<Key<'a>>
 impl<'a> KeySet<'a> {
     ghost use Rattle.std.specs.Prelude.{◌≤◌, [], ◌∷◌, length, IfErr};
     ghost use Rattle.cose_map.specs.Choice.{chosen};
+    ghost use Rattle.cose_map.specs.Choice.Place.{first_fitting, place_of};
     ghost use Rattle.cose_map.specs.Choice.View.{question, found_value};
     ghost use Rattle.cose_map.specs.KeySet.{keys_of, items_in};
     ghost use Rattle.cose_map.specs.KeySet.Items.{key_items_left};
@@ -117,6 +118,33 @@ impl<'a> KeySet<'a> {
             }
         }
         fitting.answer(query)
+    }
+
+    /// The number of the first usable key that fits.
+    fn first_fitting(&self, query: &Query) -> Option<usize>
+        ensures { result ≡ first_fitting (question query.now) 0 (keys self.now) }
+    {
+        let mut place = 0;
+        for item in KeyItems::of(self.set) {
+            if let Some(key) = usable(&item) {
+                if query.fitting(&key).is_some() {
+                    return Some(place);
+                }
+                place += 1;
+            }
+        }
+        None
+    }
+
+    /// Where the key that [`KeySet::find`] finds stands: how many usable keys of the set are before it. `None` where none is
+    /// found.
+    pub fn place(&self, query: &Query) -> Option<usize>
+        ensures { result ≡ place_of (question query.now) (keys self.now) }
+    {
+        match self.find(query) {
+            Ok(_) => self.first_fitting(query),
+            Err(_) => None,
+        }
     }
 }
 

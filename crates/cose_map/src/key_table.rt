@@ -29,6 +29,7 @@ pub struct KeyTable<'a, const N: usize> {
 impl<'a, const N: usize> KeyTable<'a, N> {
     ghost use Rattle.std.specs.Prelude.{◌≡◌, ◌≤◌, [], length, IfErr, OnErr};
     ghost use Rattle.cose_map.specs.Choice.{chosen};
+    ghost use Rattle.cose_map.specs.Choice.Place.{first_fitting, place_of};
     ghost use Rattle.cose_map.specs.Choice.View.{question, found_value};
     ghost use Rattle.cose_map.specs.KeySet.{keys_of};
     ghost use Rattle.cose_map.specs.KeyTable.{keys, table_of};
@@ -117,6 +118,31 @@ impl<'a, const N: usize> KeyTable<'a, N> {
             slot.meet(&mut fitting, query);
         }
         fitting.answer(query)
+    }
+
+    /// The number of the first key that fits.
+    fn first_fitting(&self, query: &Query) -> Option<usize>
+        ensures { result ≡ first_fitting (question query.now) 0 (keys self.now) }
+    {
+        let mut place = 0;
+        for slot in self.slots.as_slice() {
+            if slot.is_fitting(query) {
+                return Some(place);
+            }
+            place += 1;
+        }
+        None
+    }
+
+    /// Where the key that [`KeyTable::find`] finds stands: how many keys of the table are before it. `None` where none is
+    /// found.
+    pub fn place(&self, query: &Query) -> Option<usize>
+        ensures { result ≡ place_of (question query.now) (keys self.now) }
+    {
+        match self.find(query) {
+            Ok(_) => self.first_fitting(query),
+            Err(_) => None,
+        }
     }
 }
 

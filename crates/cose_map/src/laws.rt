@@ -4,7 +4,9 @@
 ghost use Rattle.cose_map.specs.Laws.Allowed.{ChosenIsAllowed, AlgorithmIsAllowed, SecretIsLongEnough};
 ghost use Rattle.cose_map.specs.Laws.Inside.{MapIsRefusedInside, ReadIsRefusedInside, BucketIsRefusedInside, KeyIsRefusedInside, FoundEndsInside, BucketEndsInside, PairIsRefusedInside};
 ghost use Rattle.cose_map.specs.Laws.Chosen.{ChosenIsAmong, ChosenFits, ChosenIsOfKind, ChosenIsOfType, NoOtherFits};
+ghost use Rattle.cose_map.specs.Laws.Place.{ChosenStandsThere, NoPlaceOfNone};
 ghost use Rattle.cose_map.specs.Laws.Least.{NoLeastOfNone, LeastIsAmong, NoneBeforeLeast};
+ghost use Rattle.cose_map.specs.Laws.Points.{FullIsShort, PointIsFull, PointsAreFull};
 ghost use Rattle.cose_map.specs.Laws.Reasons.{MapIsRefusedFor, ReadIsRefusedFor, BucketIsRefusedFor, KeyIsRefusedFor, KeySetIsRefusedFor, PairIsRefusedFor, ChoiceIsRefusedFor, BucketIsNotTruncated, KeyIsNotTruncated, KeySetIsNotTruncated, PairIsNotTruncated, ChoiceIsNotTruncated};
 ghost use Rattle.cose_map.specs.Laws.Tree.{ItemIsTree, MapIsOfTree, BucketIsOfTree, KeyIsOfTree};
 
@@ -90,10 +92,25 @@ pub fn chosen_key_fits()
     ensures only { NoOtherFits }
 {}
 
+/// The usable key that stands at the place that [`KeySet::place`](crate::KeySet::place) gives is the one that is chosen, and there is such a
+/// place exactly where one is chosen.
+pub fn chosen_key_stands_there()
+    ensures key { ChosenStandsThere }
+    ensures none { NoPlaceOfNone }
+{}
+
 /// Of the keys that [`Restrictions`](crate::Restrictions) leave, the one that is chosen is allowed. The algorithm that it is
 /// used with is among those that are allowed, where any are named, and a secret has as many bytes as are asked for.
 pub fn restrictions_hold()
     ensures key { ChosenIsAllowed }
     ensures algorithm { AlgorithmIsAllowed }
     ensures secret { SecretIsLongEnough }
+{}
+
+/// The point of a key that was read, alone or in a set, is on one of the curves P-256, P-384 and P-521, and each coordinate has
+/// the curve's full length (RFC 9053 section 7.1.1), at most 66 bytes. Of y there may be the sign alone.
+pub fn points_are_full()
+    ensures key { PointIsFull }
+    ensures keys { PointsAreFull }
+    ensures short { FullIsShort }
 {}

@@ -33,6 +33,7 @@ pub struct PreparedTable<'a, const N: usize> {
 
 impl<'a, const N: usize> PreparedTable<'a, N> {
     ghost use Rattle.cose_map.specs.Choice.{chosen};
+    ghost use Rattle.cose_map.specs.Choice.Place.{place_of};
     ghost use Rattle.cose_map.specs.Choice.View.{question, found_value};
     ghost use Rattle.std.specs.Prelude.{length};
     ghost use Rattle.cose_map.specs.KeyTable.{keys};
@@ -67,6 +68,14 @@ impl<'a, const N: usize> PreparedTable<'a, N> {
         ensures { found_value result ≡ chosen (question query.now) (prepared_keys self.now) }
     {
         self.table.find(query)
+    }
+
+    /// Where the key that [`PreparedTable::find`] finds stands: how many keys of the table are before it. `None` where none is
+    /// found.
+    pub fn place(&self, query: &Query) -> Option<usize>
+        ensures { result ≡ place_of (question query.now) (prepared_keys self.now) }
+    {
+        self.table.place(query)
     }
 }
 

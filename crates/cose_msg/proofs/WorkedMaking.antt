@@ -1,22 +1,26 @@
 -- The COSE_Mac0 that is made, and the faults of the arguments, on examples, by computing (RFC 9052 section 6.2, RFC
 -- 9053 section 3.1). The MAC is left as it is defined.
-use Rattle.std.specs.Prelude.{◌≡◌, ℕ, ◌^◌, ◌-◌, pos, List, [], ◌∷◌, ◌++◌, map, replicate, Option, None, Some, refl}
+use Rattle.std.specs.Prelude.{◌≡◌, ℕ, ◌^◌, ◌-◌, pos, List, [], ◌∷◌, ◌++◌, map, replicate, length, Option, None, Some, refl}
 use Rattle.std.proofs.Common.{ap, ◌∙◌}
 use Prim.Native.String.{String}
 use Rattle.cose_head.specs.Head.{shortest_head}
 use Rattle.cose_head.specs.Shortest.{shortest, shortest_all}
 use Rattle.cose_head.specs.declared.algorithm.Alg.{Alg}
-use Rattle.cose_head.specs.declared.algorithm.Alg.TheVariants.{Hmac64, Hmac256, Hmac384, Hmac512, Es256, Es384, Es512}
+use Rattle.cose_head.specs.declared.algorithm.Alg.TheVariants.{Hmac64, Hmac256, Hmac384, Hmac512, Es256, Es384, Es512, Esp256, Esp384, Esp512}
 use Rattle.cose_mac.specs.Hmac.{mac}
 use Rattle.cose_mac.specs.Laws.{MacHasItsLength}
-use Rattle.cose_mac.specs.Structure.{encoded_string, mac_structure}
+use Rattle.cose_head.specs.declared.kind.Kind.TheVariants.{Sign1}
+use Rattle.cose_mac.specs.Structure.{encoded_string, mac_structure, sig_structure, structure_of}
 use Rattle.cose_map.specs.Key.Value.{KeyValue}
 use Rattle.cose_map.specs.Label.{number, words}
 use Rattle.cose_msg.specs.declared.make.MakeFault.{MakeFault}
 use Rattle.cose_msg.specs.declared.make.MakeFault.TheVariants.{WrongKey, TooLong}
 use Rattle.cose_msg.specs.Make.{make_fault}
-use Rattle.cose_msg.specs.Making.{made}
-use Rattle.cose_msg.proofs.lemmas.Made.Making.{in_parts}
+use Rattle.cose_msg.specs.declared.make.sign1_maker.SignFault.TheVariants as wrongly
+use Rattle.cose_msg.specs.declared.make.sign1_maker.SignFault.TheVariants.{WrongAlgorithm}
+use Rattle.cose_msg.specs.Making.{made, protected_made}
+use Rattle.cose_msg.specs.Signing.{sign_fault, signed}
+use Rattle.cose_msg.proofs.lemmas.Made.Making.{in_parts, signed_in_parts}
 use Rattle.cose_msg.proofs.WorkedMessages.{any, hex, jefe, point, point_on, secret}
 
 abbrev message : Alg → Option (List ℕ) → List ℕ → List ℕ → List ℕ
@@ -124,3 +128,29 @@ long_payloads = refl
 -- The key is looked at first.
 both_faults : (byte : ℕ → ℕ) → make_fault Hmac256 (point None) (Some (any byte 256)) [] (2 ^ 56) ≡ Some WrongKey
 both_faults byte = refl
+
+-- ---- a COSE_Sign1
+
+-- The single signature of RFC 9052 appendix C.2.1: the message without its signature, and what is signed (section 4.4).
+content : List ℕ
+content = hex "54 68 69 73 20 69 73 20 74 68 65 20 63 6f 6e 74 65 6e 74 2e"
+
+signed_example : (signature : List ℕ) → length signature ≡ 64 → signed Es256 (Some (hex "3131")) content signature ≡
+    hex "d284 43a10126 a104423131 54" ++ (content ++ (hex "5840" ++ signature))
+unfolding content shortest shortest_all shortest_head
+signed_example signature has_64 = rw has_64 at (signed_in_parts Es256 (Some (hex "3131")) content signature)
+
+signed_structure : structure_of Sign1 (protected_made Es256) [] content ≡ hex "846a5369676e61747572653143a1012640 54" ++ content
+unfolding content sig_structure shortest shortest_all shortest_head
+signed_structure = refl
+
+-- Each algorithm's protected header.
+protected_headers : map protected_made (Es256 ∷ Es384 ∷ Es512 ∷ Esp256 ∷ Esp384 ∷ Esp512 ∷ []) ≡
+    hex "a10126" ∷ hex "a1013822" ∷ hex "a1013823" ∷ hex "a10128" ∷ hex "a1013832" ∷ hex "a1013833" ∷ []
+unfolding shortest shortest_all shortest_head
+protected_headers = refl
+
+-- An algorithm of MACs signs nothing; it is looked at before the lengths.
+sign_faults : (byte : ℕ → ℕ) → sign_fault Hmac256 (Some (any byte 256)) [] 2 ∷ sign_fault Es256 (Some (any byte 255)) [] (2 ^ 56 - 1) ∷ sign_fault Es256 (Some (any byte 256)) [] 2 ∷ sign_fault Es512 None [] (2 ^ 56) ∷ [] ≡
+    Some WrongAlgorithm ∷ None ∷ Some wrongly.TooLong ∷ Some wrongly.TooLong ∷ []
+sign_faults byte = refl

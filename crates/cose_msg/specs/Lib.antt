@@ -38,3 +38,4 @@ pub mod Detached
 pub mod Make
 pub mod Writes
 pub mod Maker
+pub mod Signing

@@ -4,6 +4,7 @@ use Rattle.std.specs.Io.KnownBytes.{Appends}
 use Rattle.cose_head.specs.Head.{shortest_head}
 use Rattle.cose_head.specs.Shortest.{shortest}
 use Rattle.cose_head.specs.declared.algorithm.Alg.{Alg}
+use Rattle.cose_head.specs.declared.kind.Kind.{Kind}
 use Rattle.cose_head.specs.declared.kind.Kind.TheVariants.{Mac0}
 use Rattle.cose_mac.specs.Running.{FedMac}
 use Rattle.cose_mac.specs.Structure.{encoded_string}
@@ -42,14 +43,17 @@ pub record Writes (old new : Seen) (result : Result ℕ MakeFault) (bytes : List
 abbrev pub WritesTo : {S : Type 0} → (S → Seen) → S → S → Result ℕ MakeFault → List ℕ → Type 0
 WritesTo view old new result bytes = Writes (view old) (view new) result bytes
 
--- What precedes the payload's content.
-abbrev pub front_of : List ℕ → Option (List ℕ) → ℕ → List ℕ
-front_of protected kid payload_length =
-    shortest_head 6 (tag_number Mac0)
+-- What precedes the payload's content in a message of this kind, and in a COSE_Mac0.
+abbrev pub front_under : Kind → List ℕ → Option (List ℕ) → ℕ → List ℕ
+front_under kind protected kid payload_length =
+    shortest_head 6 (tag_number kind)
     ++ (shortest_head 4 4
     ++ (encoded_string 2 protected
     ++ (shortest (unprotected_made kid)
     ++ shortest_head 2 payload_length)))
+
+abbrev pub front_of : List ℕ → Option (List ℕ) → ℕ → List ℕ
+front_of protected kid payload_length = front_under Mac0 protected kid payload_length
 
 -- All bytes that were taken were put, unless the sink failed.
 abbrev pub PutsTaken : Option (List ℕ) → Option (List ℕ) → Result ℕ MakeFault → List ℕ → Type 0

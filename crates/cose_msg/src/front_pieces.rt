@@ -42,6 +42,8 @@ impl<'v> FrontPieces<'v> {
     pub fn new(kind: Kind, protected: &'v [u8], aad: &'v [u8], payload_length: u64) -> Self
         ensures joined { concat (pieces_of result)
             ≡ structure_front kind protected.now aad.now payload_length }
+        ensures context { piece_at 0 (pieces_of result) ≡ context_front kind }
+        ensures external { piece_at 4 (pieces_of result) ≡ aad.now }
         // With any payload of that length after them, they are the structure.
         ensures completes { (payload : List ℕ) → length payload ≡ payload_length
             → concat (pieces_of result) ++ payload
@@ -55,6 +57,27 @@ impl<'v> FrontPieces<'v> {
             aad,
             payload_head: write_head(2, payload_length),
         }
+    }
+
+    /// The second piece: the protected header's head.
+    pub fn protected_head(&self) -> &ArrayVec<u8, 9>
+        ensures { result.now.items ≡ piece_at 1 (pieces_of self.now) }
+    {
+        &self.protected_head
+    }
+
+    /// The fourth piece: the external data's head.
+    pub fn aad_head(&self) -> &ArrayVec<u8, 9>
+        ensures { result.now.items ≡ piece_at 3 (pieces_of self.now) }
+    {
+        &self.aad_head
+    }
+
+    /// The last piece: the payload's head.
+    pub fn payload_head(&self) -> &ArrayVec<u8, 9>
+        ensures { result.now.items ≡ piece_at 5 (pieces_of self.now) }
+    {
+        &self.payload_head
     }
 
     /// The piece of this number, from 0 on. It may have no bytes, as each after the last has none.

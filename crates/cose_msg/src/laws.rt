@@ -5,8 +5,10 @@ ghost use Rattle.cose_msg.specs.Elsewhere.{DecidedBefore, OtherMacIsRefused, Sta
 ghost use Rattle.cose_msg.specs.Feed.{CutsDontMatter, PiecesJoin};
 ghost use Rattle.cose_msg.specs.GrammarLaws.{ArrayOfFourIsMessage, AuthenticIsMessage, MessageIsArrayOfFour, MessageIsRead, OneArrayOfFour};
 ghost use Rattle.cose_msg.specs.Maker.{MadeInParts};
-ghost use Rattle.cose_msg.specs.MakingLaws.{MadeIsAuthentic};
+ghost use Rattle.cose_msg.specs.MakingLaws.{MadeIsAuthentic, SignedIsAuthentic};
+ghost use Rattle.cose_msg.specs.Signing.{SignedInParts};
 ghost use Rattle.cose_msg.specs.Laws.{AllAreFair, AttachedAwaitsNothing, AttachedIsDefinite, ComparingGoesLast, FinishGoesLast, MessageEndsTruncated, MessageIsBounded, MessageIsDefinite, MessageIsInspectedWithin, MessageIsVerifiedWithin, MessageIsPlacedInside, MessageStays, OpenEarlier, OpenIsTruncated, OpenStays, PayloadStays, VerdictStays, VerifyingGoesLast};
+ghost use Rattle.cose_msg.specs.Naming.{ChosenStandsThere};
 ghost use Rattle.cose_msg.specs.Shown.{SignaturesAreOfSign1};
 ghost use Rattle.cose_msg.specs.Unrefused.{OneMessage, ShapedIsMessage, UnrefusedIsMessage, WholeIsMessage};
 
@@ -15,7 +17,9 @@ use cose_head::laws::{
     shortest_is_spelling, whole_is_one_item,
 };
 use cose_mac::laws::mac_has_its_length;
-use cose_map::laws::{chosen_key_fits, refusals_are_not_truncated, refusals_stand_inside};
+use cose_map::laws::{
+    chosen_key_fits, chosen_key_stands_there, refusals_are_not_truncated, refusals_stand_inside,
+};
 
 /// The reading of the bytes of a message stays when bytes follow, once it is settled, whether the message is verified
 /// or inspected. Before that its answer is Truncated at the number of bytes.
@@ -148,6 +152,24 @@ pub fn made_in_parts()
     ensures { MadeInParts }
 {}
 
+/// A COSE_Sign1 that is made with a signature which the caller's verifier holds good is authentic, whatever bytes follow it, in each
+/// setting that accepts COSE_Sign1 (RFC 9052 section 4.2), as [`made_is_authentic`] says of a COSE_Mac0.
+pub fn signed_is_authentic()
+    ensures authentic { SignedIsAuthentic }
+{
+    bare_head_is_spelling();
+    read_is_spelling();
+    shortest_is_spelling();
+    whole_is_one_item();
+    look_is_of_tree();
+}
+
+/// A COSE_Sign1 that is made is what precedes the payload's content, the payload, and its signature as a byte string: what
+/// [`Sign1Maker`](crate::Sign1Maker) puts at the beginning, the pieces, and what [`Unsigned::end`](crate::Unsigned::end) puts.
+pub fn signed_in_parts()
+    ensures { SignedInParts }
+{}
+
 /// Where tags are compared and signatures are left, a message that is complete and not decided is a COSE_Sign1 all of
 /// whose bytes are there: the chosen key has an algorithm of the message's kind.
 pub fn signatures_are_of_sign1()
@@ -178,4 +200,13 @@ pub fn authentication_is_stated()
 {
     // The laws that the proof cites: comparing and deciding on the signature come last.
     deciding_goes_last();
+}
+
+/// The key of a message is the usable key at the place that [`KeySet::place`](cose_map::KeySet::place) gives for what the message asks
+/// of its key ([`Verifier::query`](crate::Verifier::query)).
+pub fn key_stands_there()
+    ensures { ChosenStandsThere }
+{
+    // The law that the proof cites: the key that is chosen stands at its place.
+    chosen_key_stands_there();
 }

@@ -7,11 +7,13 @@ ghost use Rattle.cose_head.specs.Shortest.{shortest};
 ghost use Rattle.cose_mac.specs.Structure.{encoded_string};
 ghost use Rattle.cose_map.specs.Key.View.{contents, key_value};
 ghost use Rattle.cose_msg.specs.Make.{Makes, answer_over, argument_fault, is_long_kid, is_too_long as is_too_long_for, made_under, make_fault, stops_for_intake, stops_for_sink};
-ghost use Rattle.cose_msg.specs.Writes.{Streams, WritesTo, front_of, seen};
+ghost use Rattle.cose_msg.specs.Writes.{Streams, WritesTo, front_under, seen};
 ghost use Rattle.cose_msg.specs.Making.{allows_making as allows_making_by, fits_making, protected_made, unprotected_made};
+ghost use Rattle.cose_msg.specs.Grammar.{tag_number};
 ghost use Rattle.cose_msg.specs.Message.{secret_of};
 
 pub(crate) mod maker;
+pub(crate) mod sign1_maker;
 
 use crate::intake::Intake;
 use crate::sink::Sink;
@@ -46,8 +48,10 @@ const MAP: u8 = 5;
 
 const TAG: u8 = 6;
 
-/// The tag of a COSE_Mac0 (RFC 9052 section 2).
+/// The tags of a COSE_Mac0 and of a COSE_Sign1 (RFC 9052 section 2).
 const COSE_MAC0: u64 = 17;
+
+const COSE_SIGN1: u64 = 18;
 
 /// The label of the key identifier (RFC 9052 section 3.1).
 const KID: u64 = 4;
@@ -142,20 +146,31 @@ fn put_unprotected<S: Sink>(sink: &mut S, kid: Option<&[u8]>) -> Result<u64, Mak
     }
 }
 
+/// The tag of a kind (RFC 9052 section 2, table 1).
+fn tag_of(kind: Kind) -> u64
+    ensures { result ≡ tag_number kind }
+{
+    match kind {
+        Kind::Mac0 => COSE_MAC0,
+        Kind::Sign1 => COSE_SIGN1,
+    }
+}
+
 /// Puts all that precedes the payload's content.
 fn put_front<S: Sink>(
     sink: &mut S,
+    kind: Kind,
     protected: &[u8],
     kid: Option<&[u8]>,
     length: u64,
 ) -> Result<u64, MakeFault>
-    requires protected { length_of protected.now ≡ 3 }
+    requires protected { length_of protected.now ≤ 4 }
     requires kid { is_long_kid (option_map contents kid) ≡ false }
     ensures written { WritesTo (seen S.contents S.has_failed S.sure) sink.old sink.new result
-        (front_of protected.now (option_map contents kid.entry) length) }
-    ensures short { IfOk result (λ n. n ≤ 321) }
+        (front_under kind protected.now (option_map contents kid.entry) length) }
+    ensures short { IfOk result (λ n. n ≤ 318 + length_of protected.now) }
 {
-    let tag = put_head(sink, TAG, COSE_MAC0)?;
+    let tag = put_head(sink, TAG, tag_of(kind))?;
     let array = put_head(sink, ARRAY, 4)?;
     let protected = put_byte_string(sink, protected)?;
     let unprotected = put_unprotected(sink, kid)?;
@@ -261,7 +276,7 @@ pub fn make_mac0<const C: usize, I: Intake, S: Sink>(
     let protected = protected_header(alg);
     let mut running = Running::hmac(alg, secret);
     structure_front(Kind::Mac0, &protected, aad, length, &mut running);
-    let front = put_front(sink, &protected, kid, length)?;
+    let front = put_front(sink, Kind::Mac0, &protected, kid, length)?;
     let payload = put_payload::<C, I, S>(intake, length, &mut running, sink)?;
     let auth = put_byte_string(sink, &running.finish_mac())?;
     Ok(front + payload + auth)

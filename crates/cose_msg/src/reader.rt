@@ -15,7 +15,7 @@ use cose_mac::Alg;
 use cose_map::{Key, Keys};
 
 mod auth;
-mod choice;
+pub(crate) mod choice;
 mod decide;
 mod front;
 mod getters;

@@ -3,6 +3,7 @@
 ghost use Rattle.std.specs.Prelude.{◌≡◌, ℤ, List};
 ghost use Rattle.std.specs.List.{cons_option};
 ghost use Rattle.cose_map.specs.Choice.{fitting as fitting_key};
+ghost use Rattle.cose_map.specs.Choice.Place.{is_fitting as is_fitting_key};
 ghost use Rattle.cose_map.specs.Choice.View.{question, with_rest};
 ghost use Rattle.cose_map.specs.Key.Value.{KeyValue};
 ghost use Rattle.cose_map.specs.Key.View.{key_value};
@@ -53,6 +54,16 @@ impl<'a> Slot<'a> {
         match self {
             Slot::Taken(key) => fitting.meet(key, query),
             Slot::Empty => fitting.meet(&blank(), query),
+        }
+    }
+
+    /// Whether the key of the place fits.
+    pub(crate) fn is_fitting(&self, query: &Query) -> bool
+        ensures { result ≡ is_fitting_key (question query.now) (slot_value self.now) }
+    {
+        match self {
+            Slot::Taken(key) => query.fitting(key).is_some(),
+            Slot::Empty => query.fitting(&blank()).is_some(),
         }
     }
 }

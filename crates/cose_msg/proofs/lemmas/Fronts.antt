@@ -1,5 +1,5 @@
 -- The pieces before a payload, joined.
-use Rattle.std.proofs.Common.{◌≡◌, ℕ, List, [], ◌∷◌, ◌++◌, length, ap, ◌∙◌, append_assoc, append-nil}
+use Rattle.std.proofs.Common.{◌≡◌, ◌≤◌, arith, ℕ, List, [], ◌∷◌, ◌++◌, length, ap, ◌∙◌, append_assoc, append-nil}
 use Rattle.std.specs.List.{concat}
 use Rattle.cose_head.specs.Head.{shortest_head}
 use Rattle.cose_head.specs.declared.kind.Kind.{Kind}
@@ -25,3 +25,9 @@ front_completed kind protected aad payload n count = rw (← count) (with_payloa
 pub pieces_completed : (kind : Kind) (protected aad payload : List ℕ) (n : ℕ) → length payload ≡ n →
     concat (context_front kind ∷ shortest_head 2 (length protected) ∷ protected ∷ shortest_head 2 (length aad) ∷ aad ∷ shortest_head 2 n ∷ []) ++ payload ≡ structure_of kind protected aad payload
 pieces_completed kind protected aad payload n count = ap (λ (front : List ℕ). front ++ payload) (pieces_joined kind protected aad n) ∙ front_completed kind protected aad payload n count
+
+-- The context and the head of the array have 7 or 12 bytes.
+pub short_context : (kind : Kind) → length (context_front kind) ≤ 12
+unfolding shortest_head
+short_context Mac0 = omega arith
+short_context Sign1 = omega arith

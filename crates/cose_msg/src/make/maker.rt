@@ -74,7 +74,7 @@ impl Maker {
         let protected = protected_header(alg);
         let mut running = Running::hmac(alg, secret);
         structure_front(Kind::Mac0, &protected, aad, length, &mut running);
-        match put_front(sink, &protected, kid, length) {
+        match put_front(sink, Kind::Mac0, &protected, kid, length) {
             Ok(_) => Ok(Maker {
                 running,
                 left: length,

@@ -4,6 +4,7 @@ ghost use Rattle.std.specs.Prelude.{◌≡◌, ◌<◌, ◌≤◌, ◌+◌, ◌^
 ghost use Rattle.cose_map.specs.Bucket.View.{bucket_pairs};
 ghost use Rattle.cose_map.specs.Choice.View.{question};
 ghost use Rattle.cose_map.specs.Key.View.{material_value};
+ghost use Rattle.cose_msg.specs.Answer.{Headers};
 ghost use Rattle.cose_msg.specs.Chosen.{choice_seen};
 ghost use Rattle.cose_msg.specs.Message.{operation_of as operation_value, question_of, secret_of as secret_bytes};
 ghost use Rattle.cose_msg.specs.Phases.{headers_of};
@@ -37,7 +38,11 @@ fn secret_of<'k>(material: &Material<'k>) -> &'k [u8]
 }
 
 /// What a message asks of its key.
-fn query_of<'q>(kind: Kind, protected: &Bucket<'q>, unprotected: &Bucket<'q>) -> Query<'q>
+pub(crate) fn query_of<'q>(
+    kind: Kind,
+    protected: &Bucket<'q>,
+    unprotected: &Bucket<'q>,
+) -> Query<'q>
     ensures { question result
         ≡ question_of
         (headers_of kind [] (bucket_pairs protected.now) (bucket_pairs unprotected.now)) }
@@ -51,24 +56,30 @@ fn query_of<'q>(kind: Kind, protected: &Bucket<'q>, unprotected: &Bucket<'q>) ->
     }
 }
 
-/// Puts the one key of these that fits what the buckets say into its place, if one is to be chosen. (A key is large, so that
-/// it isn't returned: it is copied no more often than it has to be.)
+/// What both buckets say of the key.
+#[derive(Clone, Copy)]
+struct Asked<'q> {
+    /// What the message asks of it.
+    query: Query<'q>,
+    /// Whether the protected bucket has no pair.
+    is_bare: bool,
+}
+
+/// Puts the one key of these that fits the query into its place, if one is to be chosen. (A key is large, so that it isn't
+/// returned: it is copied no more often than it has to be.)
 fn key_for<'k, K: Keys<'k>>(
     keys: Option<&K>,
-    kind: Kind,
-    protected: &Bucket<'_>,
-    unprotected: &Bucket<'_>,
+    query: &Query<'_>,
     into: &mut Option<Chosen<'k>>,
 ) -> Result<(), Reason>
-    ensures { (content : List ℕ) → choice_seen result into.new
-        ≡ choice_among (keys_in K.usable keys.entry)
-        (headers_of kind content (bucket_pairs protected.now) (bucket_pairs unprotected.now)) }
+    ensures { (headers : Headers) → question query.now ≡ question_of headers
+        → choice_seen result into.new ≡ choice_among (keys_in K.usable keys.entry) headers }
 {
     let Some(keys) = keys else {
         *into = None;
         return Ok(());
     };
-    match keys.find(&query_of(kind, protected, unprotected)) {
+    match keys.find(query) {
         Ok((key, number)) => match Alg::from_number(number) {
             Some(alg) => {
                 *into = Some(Chosen { key, alg });
@@ -81,9 +92,12 @@ fn key_for<'k, K: Keys<'k>>(
 }
 
 impl<'k, const H: usize, const D: usize> Reader<'k, H, D> {
-    ghost use Rattle.std.specs.Prelude.{length, option_map};
+    ghost use Rattle.std.specs.Prelude.{◌==◌, IfOk, length, map, option_map};
     ghost use Rattle.cose_map.specs.Bucket.{bucket_of};
+    ghost use Rattle.cose_map.specs.Bucket.Both.{pair_fault};
+    ghost use Rattle.cose_map.specs.Label.View.{label_value};
     ghost use Rattle.cose_map.specs.Map.Pairs.{Pair};
+    ghost use Rattle.cose_map.specs.Map.View.{refusal_in};
     ghost use Rattle.cose_msg.specs.Choosing.{choice_of};
     ghost use Rattle.cose_msg.specs.Chosen.{ChoiceIs, chosen_value};
     ghost use Rattle.cose_msg.specs.Hashing.{HashesFor, is_elsewhere};
@@ -91,6 +105,38 @@ impl<'k, const H: usize, const D: usize> Reader<'k, H, D> {
     ghost use Rattle.cose_msg.specs.Reading.{Reading};
     ghost use Rattle.cose_msg.specs.Reader.{Shows, ReaderMeans, task_in};
     ghost use Rattle.cose_msg.specs.Task.{Task, asks, keys_for, rules_of};
+
+    /// What both buckets say of the key, once they are checked together. Their contents are at these places, and were found
+    /// good. Not inlined, so that the buckets aren't on the stack while a key is looked for.
+    #[inline(never)]
+    fn asked(&self, kind: Kind, protected_at: u64, at: u64) -> Result<Asked<'_>, Refusal>
+        requires protected_early { protected_at ≤ 36 }
+        requires early { at < 2 ^ 17 }
+        ensures refused { (pairs others : List Pair)
+            → bucket_of D (placed_at protected_at self.now.protected.items) ≡ Ok pairs
+            → bucket_of D (placed_at at self.now.unprotected.items) ≡ Ok others
+            → refusal_in result ≡ pair_fault pairs others
+            (map label_value self.now.terms.understood.now)
+            (at + length self.now.unprotected.items) }
+        ensures query { (pairs others : List Pair)
+            → bucket_of D (placed_at protected_at self.now.protected.items) ≡ Ok pairs
+            → bucket_of D (placed_at at self.now.unprotected.items) ≡ Ok others
+            → IfOk result (λ asked. question asked.query
+            ≡ question_of (headers_of kind [] pairs others)) }
+        ensures bare { (pairs others : List Pair)
+            → bucket_of D (placed_at protected_at self.now.protected.items) ≡ Ok pairs
+            → bucket_of D (placed_at at self.now.unprotected.items) ≡ Ok others
+            → IfOk result (λ asked. asked.is_bare ≡ (length pairs == 0)) }
+    {
+        let protected = Bucket::again(self.protected.as_slice(), protected_at, D)?;
+        let unprotected = Bucket::again(self.unprotected.as_slice(), at, D)?;
+        let place = at + self.unprotected.len() as u64;
+        check_pair(&protected, &unprotected, self.terms.understood, place)?;
+        Ok(Asked {
+            query: query_of(kind, &protected, &unprotected),
+            is_bare: protected.is_empty(),
+        })
+    }
 
     /// Puts the key that the buckets choose into its place, if one is to be chosen, and returns whether the protected bucket
     /// has no pair. The contents of both are at these places, and were found good.
@@ -112,31 +158,35 @@ impl<'k, const H: usize, const D: usize> Reader<'k, H, D> {
             (choice_of task (headers_of kind self.now.protected.items pairs others)
             (at + length self.now.unprotected.items)) }
     {
-        let protected = Bucket::again(self.protected.as_slice(), protected_at, D)?;
-        let unprotected = Bucket::again(self.unprotected.as_slice(), at, D)?;
+        let asked = self.asked(kind, protected_at, at)?;
         let place = at + self.unprotected.len() as u64;
-        check_pair(&protected, &unprotected, self.terms.understood, place)?;
-        match key_for(keys, kind, &protected, &unprotected, into) {
-            Ok(()) => Ok(protected.is_empty()),
+        match key_for(keys, &asked.query, into) {
+            Ok(()) => Ok(asked.is_bare),
             Err(reason) => Err(Refusal { reason, place }),
         }
     }
 
-    /// Begins the hash over the structure, where a key was chosen and the message isn't authenticated elsewhere.
+    /// Begins the hash over the structure, where a key was chosen and the message isn't authenticated elsewhere. Not
+    /// inlined, so that it isn't on the stack while the key is looked for.
+    #[inline(never)]
     fn begin_hashing<K: Keys<'k>>(
         keys: Option<&K>,
         elsewhere: bool,
         chosen: &Option<Chosen<'k>>,
-    ) -> Hashing
-        ensures begun { HashesFor result (option_map chosen_value chosen.now) [] }
-        ensures kind { is_elsewhere result ≡ elsewhere }
+        into: &mut Hashing,
+    )
+        ensures begun { HashesFor into.new (option_map chosen_value chosen.now) [] }
+        ensures kind { is_elsewhere into.new ≡ elsewhere }
     {
         if elsewhere {
-            return Hashing::Elsewhere;
+            *into = Hashing::Elsewhere;
+            return;
         }
         match chosen {
-            Some(chosen) => Hashing::begin(keys, chosen.alg, secret_of(&chosen.key.material)),
-            None => Hashing::Nothing,
+            Some(chosen) => {
+                *into = Hashing::begin(keys, chosen.alg, secret_of(&chosen.key.material));
+            }
+            None => *into = Hashing::Nothing,
         }
     }
 
@@ -166,7 +216,7 @@ impl<'k, const H: usize, const D: usize> Reader<'k, H, D> {
         let mut chosen = None;
         match self.choose(keys, kind, protected_at, at, &mut chosen) {
             Ok(is_bare) => {
-                self.hashing = Self::begin_hashing(keys, elsewhere, &chosen);
+                Self::begin_hashing(keys, elsewhere, &chosen, &mut self.hashing);
                 self.chosen = chosen;
                 self.begin_payload_head(kind, is_bare, after);
             }

@@ -35,7 +35,7 @@ impl<'k, const H: usize, const D: usize> Reader<'k, H, D> {
     ghost use Rattle.std.specs.Prelude.{ℕ, List, [], true, is_some};
     ghost use Rattle.std.specs.List.{concat};
     ghost use Rattle.cose_msg.specs.Elsewhere.{AsksKey, HasSignature, IsFrontOf, key_asked};
-    ghost use Rattle.cose_msg.specs.FrontPieces.{pieces_of};
+    ghost use Rattle.cose_msg.specs.FrontPieces.{piece_at, pieces_of};
     ghost use Rattle.cose_msg.specs.Phase.{asks_signature, frame_of};
     ghost use Rattle.cose_msg.specs.Reader.{ReaderMeans};
     ghost use Rattle.cose_msg.specs.Reading.{Reading};
@@ -61,6 +61,9 @@ impl<'k, const H: usize, const D: usize> Reader<'k, H, D> {
             (task : Task) (payload : List ℕ) (n : ℕ) (reading : List ℕ → Reading)
             → ReaderMeans task payload n self.now reading → asks task ≡ true
             → IsFrontOf task.setting.aad reading (concat (pieces_of pieces))) }
+        ensures context { IfSome result (λ pieces. length (piece_at 0 (pieces_of pieces)) ≤ 12) }
+        ensures external { IfSome result (λ pieces.
+            piece_at 4 (pieces_of pieces) ≡ self.now.terms.aad.now) }
         ensures some { (task : Task) (payload : List ℕ) (n : ℕ) (reading : List ℕ → Reading)
             → ReaderMeans task payload n self.now reading → asks task ≡ true
             → is_some result ≡ is_some (frame_of self.now.phase) }
@@ -86,6 +89,7 @@ impl<'k, const H: usize, const D: usize> Reader<'k, H, D> {
         ensures some { (task : Task) (payload : List ℕ) (n : ℕ) (reading : List ℕ → Reading)
             → ReaderMeans task payload n self.now reading → asks task ≡ true
             → is_some result ≡ is_some (frame_of self.now.phase) }
+        ensures framed { is_some result ≡ true → is_some (frame_of self.now.phase) ≡ true }
     {
         match self.phase.frame() {
             Some(_frame) => match &self.chosen {

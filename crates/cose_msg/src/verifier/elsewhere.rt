@@ -13,7 +13,7 @@ use cose_map::{Key, Keys};
 impl<'k, const H: usize, const D: usize, S: Keys<'k>> Verifier<'k, H, D, S> {
     ghost use Rattle.std.specs.Prelude.{[], false, ℕ, List, Ok, Some, IfSome, is_some};
     ghost use Rattle.std.specs.List.{concat};
-    ghost use Rattle.cose_msg.specs.FrontPieces.{pieces_of};
+    ghost use Rattle.cose_msg.specs.FrontPieces.{piece_at, pieces_of};
     ghost use Rattle.cose_msg.specs.Answer.{decided};
     ghost use Rattle.cose_msg.specs.Elsewhere.{AsksKey, HasSignature, HoweverItGoesOn, IsFrontOf, key_asked, stated_answer, stated_by, stated_mac, then_authenticated, verdict_by};
     ghost use Rattle.cose_msg.specs.Kept.{HasTaken, WhateverAsked, answer_kept, bytes_taken, is_inspecting, kept_answer};
@@ -25,7 +25,7 @@ impl<'k, const H: usize, const D: usize, S: Keys<'k>> Verifier<'k, H, D, S> {
     ghost use Rattle.cose_msg.specs.declared.status.Status.{Status};
     ghost use Rattle.cose_msg.specs.Status.{is_complete, status_in};
     ghost use Rattle.cose_msg.specs.Task.{given_to, is_keyless, to_verify_elsewhere};
-    ghost use Rattle.cose_msg.specs.Verifier.{asks_about_signature, detaching, is_detached, is_elsewhere, is_framed, setting_of, task_of};
+    ghost use Rattle.cose_msg.specs.Verifier.{asks_about_signature, detaching, is_detached, is_elsewhere, is_framed, setting_in, setting_of, task_of};
 
     /// A verifier of a message in this context that the caller authenticates, since it has the hash or the key: its key is chosen,
     /// and its tag or signature kept, but nothing is hashed or compared.
@@ -90,6 +90,9 @@ impl<'k, const H: usize, const D: usize, S: Keys<'k>> Verifier<'k, H, D, S> {
             WhateverAsked self.now (λ setting taken payload_so_far.
             HoweverItGoesOn H D setting taken payload_so_far (λ reading.
             IsFrontOf setting.aad reading (concat (pieces_of pieces))))) }
+        ensures context { IfSome result (λ pieces. length (piece_at 0 (pieces_of pieces)) ≤ 12) }
+        ensures external { IfSome result (λ pieces.
+            piece_at 4 (pieces_of pieces) ≡ (setting_in self.now).aad) }
         ensures some { WhateverAsked self.now (λ _ _ _. is_some result ≡ is_framed self.now) }
     {
         self.reader.front_pieces()
@@ -103,6 +106,7 @@ impl<'k, const H: usize, const D: usize, S: Keys<'k>> Verifier<'k, H, D, S> {
             HoweverItGoesOn H D setting taken payload_so_far (λ reading.
             AsksKey reading (key_asked asked)))) }
         ensures some { WhateverAsked self.now (λ _ _ _. is_some result ≡ is_framed self.now) }
+        ensures framed { is_some result ≡ true → is_framed self.now ≡ true }
     {
         self.reader.asked_key()
     }

@@ -1,5 +1,5 @@
 -- The two header buckets of a message that is made: their pairs, and what they ask of the key.
-use Rattle.std.proofs.Common.{◌≡◌, ℕ, ◌+◌, ◌^◌, ◌<◌, ◌≤◌, true, List, [], ◌∷◌, ◌++◌, length, Option, Some, None, refl, ap, ◌∙◌, ◌||◌, arith, length-append, leb, ltb}
+use Rattle.std.proofs.Common.{◌≡◌, ℕ, ◌+◌, ◌^◌, ◌<◌, ◌≤◌, true, false, not, List, [], ◌∷◌, ◌++◌, length, Option, Some, None, refl, ap, ◌∙◌, ◌||◌, arith, length-append, leb, ltb}
 use Rattle.std.specs.Prelude.{Bool, Ok, ℤ, pos, negsuc}
 use Rattle.std.specs.Result.{is_err}
 use Rattle.std.proofs.lemmas.Bool.{leb-true, ltb-true}
@@ -9,7 +9,8 @@ use Rattle.cose_head.specs.Item.{unsigned, byte_string, depth_of}
 use Rattle.cose_head.specs.Placed.{look, bytes_in}
 use Rattle.cose_head.specs.Shortest.{shortest, shortest_all, HasShortest}
 use Rattle.cose_head.specs.declared.algorithm.Alg.{Alg}
-use Rattle.cose_head.specs.declared.kind.Kind.TheVariants.{Mac0}
+use Rattle.cose_head.specs.declared.kind.Kind.{Kind}
+use Rattle.cose_head.specs.declared.kind.Kind.TheVariants.{Mac0, Sign1}
 use Rattle.cose_head.proofs.Algorithms.{each_algorithm}
 use Rattle.cose_map.specs.Bucket.{bucket_of}
 use Rattle.cose_map.specs.Bucket.Both.{pair_fault, pair_faults}
@@ -21,7 +22,7 @@ use Rattle.cose_map.specs.Laws.Tree.{label_of_tree}
 use Rattle.cose_map.specs.Map.Pairs.{Pair}
 use Rattle.cose_msg.specs.Answer.{Headers}
 use Rattle.cose_msg.specs.Making.{integer_item, protected_made, unprotected_made}
-use Rattle.cose_msg.specs.MakingLaws.{question_made}
+use Rattle.cose_msg.specs.MakingLaws.{question_asked}
 use Rattle.cose_msg.specs.Message.{question_of}
 use Rattle.cose_msg.specs.Phases.{placed_at, headers_of}
 use Rattle.cose_msg.proofs.lemmas.Made.SpelledItems.{look_spelled}
@@ -41,11 +42,17 @@ integer_short (negsuc n) short = ltb-true n (2 ^ 64) short
 number_short : (alg : Alg) → HasShortest (integer_item (algorithm_number alg))
 number_short alg = integer_short (algorithm_number alg) (each_algorithm (λ a. is_short (algorithm_number a)) refl alg)
 
--- No key is chosen for the question of a message that is made by an algorithm of signatures.
-pub chosen_is_mac : (alg : Alg) (kid : Option (List ℕ)) (keys : List KeyValue) (found : KeyValue × ℤ) → chosen (question_made alg kid) keys ≡ Ok found → is_mac_of alg ≡ true
+-- A key is chosen for a message that is made only where the algorithm is one of the message's kind.
+pub chosen_is_mac : (alg : Alg) (kid : Option (List ℕ)) (keys : List KeyValue) (found : KeyValue × ℤ) → chosen (question_asked Mac0 alg kid) keys ≡ Ok found → is_mac_of alg ≡ true
 unfolding chosen
 chosen_is_mac alg kid keys found e =
-    let here : (is_mac_of alg || is_err (chosen (question_made alg kid) keys)) ≡ true = each_algorithm (λ a. is_mac_of a || is_err (chosen (question_made a kid) keys)) refl alg in
+    let here : (is_mac_of alg || is_err (chosen (question_asked Mac0 alg kid) keys)) ≡ true = each_algorithm (λ a. is_mac_of a || is_err (chosen (question_asked Mac0 a kid) keys)) refl alg in
+    grind (arith, e, here)
+
+pub chosen_is_signing : (alg : Alg) (kid : Option (List ℕ)) (keys : List KeyValue) (found : KeyValue × ℤ) → chosen (question_asked Sign1 alg kid) keys ≡ Ok found → is_mac_of alg ≡ false
+unfolding chosen
+chosen_is_signing alg kid keys found e =
+    let here : (not (is_mac_of alg) || is_err (chosen (question_asked Sign1 alg kid) keys)) ≡ true = each_algorithm (λ a. not (is_mac_of a) || is_err (chosen (question_asked Sign1 a kid) keys)) refl alg in
     grind (arith, e, here)
 
 flat_integer : (n : ℤ) → depth_of (integer_item n) ≡ 0
@@ -79,8 +86,8 @@ abbrev pub unprotected_pairs : ℕ → Option (List ℕ) → List Pair
 unprotected_pairs place None = []
 unprotected_pairs place (Some kid) = pair_at (place + 1) (number (pos 4)) (unsigned 4) (byte_string kid) ∷ []
 
-abbrev pub headers_made : Alg → Option (List ℕ) → ℕ → ℕ → Headers
-headers_made alg kid protected_place unprotected_place = headers_of Mac0 (protected_made alg) (protected_pairs protected_place alg) (unprotected_pairs unprotected_place kid)
+abbrev pub headers_made : Kind → Alg → Option (List ℕ) → ℕ → ℕ → Headers
+headers_made kind alg kid protected_place unprotected_place = headers_of kind (protected_made alg) (protected_pairs protected_place alg) (unprotected_pairs unprotected_place kid)
 
 -- A kid that has a shortest spelling.
 abbrev pub KidIsShort : Option (List ℕ) → Type 0
@@ -120,6 +127,6 @@ module _ (laws : ShortestLaws) where
   unprotected_bucket depth place (Some kid) short nests =
       one_pair_bucket laws depth place (number (pos 4)) (unsigned 4) (byte_string kid) nests (omega arith) short refl refl refl (kid_form _ kid short)
 
-  pub asks : (alg : Alg) (kid : Option (List ℕ)) (place other : ℕ) → KidIsShort kid → question_of (headers_made alg kid place other) ≡ question_made alg kid
-  asks alg None place other short = rw (algorithm_label (place + 1 + length (shortest (unsigned 1))) alg) refl
-  asks alg (Some kid) place other short = rw (algorithm_label (place + 1 + length (shortest (unsigned 1))) alg, kid_content (other + 1 + length (shortest (unsigned 4))) kid short) refl
+  pub asks : (kind : Kind) (alg : Alg) (kid : Option (List ℕ)) (place other : ℕ) → KidIsShort kid → question_of (headers_made kind alg kid place other) ≡ question_asked kind alg kid
+  asks kind alg None place other short = rw (algorithm_label (place + 1 + length (shortest (unsigned 1))) alg) refl
+  asks kind alg (Some kid) place other short = rw (algorithm_label (place + 1 + length (shortest (unsigned 1))) alg, kid_content (other + 1 + length (shortest (unsigned 4))) kid short) refl

@@ -5,9 +5,11 @@ use Rattle.cose_head.specs.Algorithm.{is_mac_of}
 use Rattle.cose_head.specs.Head.{shortest_head}
 use Rattle.cose_head.specs.Shortest.{shortest, shortest_all}
 use Rattle.cose_head.specs.declared.algorithm.Alg.{Alg}
+use Rattle.cose_head.specs.declared.kind.Kind.TheVariants.{Sign1}
 use Rattle.cose_head.proofs.Algorithms.{each_mac}
 use Rattle.cose_mac.specs.Structure.{encoded_string}
-use Rattle.cose_msg.specs.Writes.{front_of}
+use Rattle.cose_msg.specs.Signing.{signed}
+use Rattle.cose_msg.specs.Writes.{front_of, front_under}
 use Rattle.cose_msg.specs.Making.{auth_made, made, protected_made, unprotected_made}
 
 -- The unprotected header: an empty map, or one pair.
@@ -29,3 +31,8 @@ pub in_parts : (alg : Alg) (secret : List ℕ) (kid : Option (List ℕ)) (aad pa
     made alg secret kid aad payload ≡ front_of (protected_made alg) kid (length payload) ++ (payload ++ encoded_string 2 (auth_made alg secret aad payload))
 unfolding made shortest shortest_all
 in_parts alg secret kid aad payload = simp (append_assoc, append-nil)
+
+pub signed_in_parts : (alg : Alg) (kid : Option (List ℕ)) (payload signature : List ℕ) →
+    signed alg kid payload signature ≡ front_under Sign1 (protected_made alg) kid (length payload) ++ (payload ++ encoded_string 2 signature)
+unfolding signed shortest shortest_all
+signed_in_parts alg kid payload signature = simp (append_assoc, append-nil)

@@ -19,7 +19,7 @@ returns-in-Ok g c = record {
       let known : Known = record { headers = headers_of c.args.kind c.args.self.now.protected.items pairs others; chosen = option_map chosen_value c.choose.new.into; payload = []; auth = [] } in
       moved c.begin_payload_head.new.self _ _ refl (ap (λ (n : ℕ). c.args.at + n) c.len.ensures.value)
       (λ z. choice_finds g.row.H g.row.D task headers place (option_map chosen_value c.choose.new.into) chooses z ∙ rw c.len.ensures.value refl)
-      (c.begin_payload_head.ensures.reads_on task known e refl (refl, refl, chooses_if_verified task headers place (option_map chosen_value c.choose.new.into) chooses, c.begin_hashing-self.ensures.kind ∙ away, refl) refl is.bare_is c.begin_hashing-self.ensures.begun);
+      (c.begin_payload_head.ensures.reads_on task known e refl (refl, refl, chooses_if_verified task headers place (option_map chosen_value c.choose.new.into) chooses, c.begin_hashing.ensures.kind ∙ away, refl) refl is.bare_is c.begin_hashing.ensures.begun);
 }
 
 pub returns-in-Err : goal.returns-in-Err

@@ -1,0 +1,12 @@
+use Rattle.std.proofs.Common.{arith}
+use Rattle.std.proofs.lemmas.Grind.{common_steps}
+use Rattle.cose_msg.proofs.reader.Reader.asked.Goals as goal
+
+pub overflow_add-place : goal.overflow_add-place
+overflow_add-place g c = grind (arith, common_steps)
+
+pub check_pair-requires : goal.check_pair-requires
+check_pair-requires g c = cc
+
+pub is_empty-requires : goal.is_empty-requires
+is_empty-requires g c = cc
