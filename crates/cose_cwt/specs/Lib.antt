@@ -5,3 +5,4 @@ pub mod Requirements
 pub mod Token
 pub mod Required
 pub mod Laws
+pub mod Elsewhere

@@ -1,6 +1,7 @@
 //! Laws of the definitions that the contracts cite. A law is a function with no run-time effect, whose contract is the
 //! law.
 
+ghost use Rattle.cose_cwt.specs.Elsewhere.{TokenOfAnswerIsToken, TokenOfMacIsToken};
 ghost use Rattle.cose_cwt.specs.Laws.{AdmissionIsRefusedInside, ClaimsAreOfTree, ClaimsAreRefusedInside, ConfirmationIsRefusedInside};
 
 /// The place of a refusal of claims (RFC 8392 section 3), of a confirmation (RFC 8747 section 3) or of their admission
@@ -22,4 +23,15 @@ pub fn claims_are_of_a_tree()
 {
     // A law that the proof cites, of maps.
     cose_map::laws::maps_are_of_trees();
+}
+
+/// A token that is authenticated elsewhere is the token: where the caller states the MAC of the structure under the chosen key (RFC 9052
+/// section 6.3), or an answer about the signature that is right (section 4.4), and passes the message's payload, the result is that of
+/// [`verify_token`](crate::verify_token).
+pub fn stated_token_is_token()
+    ensures mac { TokenOfMacIsToken }
+    ensures answer { TokenOfAnswerIsToken }
+{
+    // A law that the proof cites.
+    cose_msg::laws::authentication_is_stated();
 }

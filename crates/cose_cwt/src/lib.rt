@@ -47,6 +47,7 @@
 
 mod claims;
 mod confirmation;
+mod elsewhere;
 pub mod laws;
 mod policy;
 mod required;
@@ -62,6 +63,7 @@ pub use cose_msg::{
     Alg, Context, EcVerifier, Intake, IntakeFault, Kind, Never, ReadIntake, SliceIntake, Stop,
     Store, Verifier, Wanted,
 };
+pub use elsewhere::{token_of_answer, token_of_mac};
 pub use policy::{Audience, Policy};
 pub use required::{Token, TokenStop, verify_token};
 pub use requirements::{Claim, Requirement, Requirements, Unmet};

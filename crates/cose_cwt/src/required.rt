@@ -68,7 +68,7 @@ fn authentic_token<'a>(
 }
 
 /// The result for a token, by the verdict on the message and its payload.
-fn token_after<'a>(
+pub(crate) fn token_after<'a>(
     verdict: Result<Verdict, Stop>,
     payload: &'a [u8],
     depth: usize,
