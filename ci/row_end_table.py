@@ -188,9 +188,11 @@ def length_ends(numbers):
     yield from numbers("the length of an item", old, "if turned(length) + count > limit - end:", ("items", "values", "buckets", "keys"), SIZES)
     yield from numbers("the number of items in an item", old, "if length + turned(count) > limit - end:", ("items", "values", "sets"), SIZES)
     old = "kid is not None and len(kid) > KID_LIMIT"
-    yield from numbers("the length of --kid", old, old.replace("len(kid)", "turned(len(kid))"), ("made", "commands"), SIZES[:1], PROGRAM)
+    yield from numbers("the length of --kid", old, old.replace("len(kid)", "turned(len(kid))"), ("made", "signed", "commands"), SIZES[:1], PROGRAM)
     old = "if len(aad) > AAD_LIMIT:"
-    yield from numbers("the length of --aad", old, "if turned(len(aad)) > AAD_LIMIT:", ("made", "commands"), SIZES[1:2], PROGRAM)
+    yield from numbers("the length of --aad", old, "if turned(len(aad)) > AAD_LIMIT:", ("made", "signed", "commands"), SIZES[1:2], PROGRAM)
+    old = "if len(signature) != reading.ALGORITHMS[alg].auth_length:"
+    yield from numbers("the length of a signature that is passed", old, old.replace("len(signature)", "turned(len(signature))"), ("signed",), SIZES[:2], PROGRAM)
     old = "demand(len(data) <= KEY_SET_LIMIT"
     yield from numbers("the length of a key set", old, old.replace("len(data)", "turned(len(data))"), ("sets", "commands"), SIZES[1:2])
     yield from numbers("the number of usable keys", "demand(len(keys) <= most", "demand(turned(len(keys)) <= most", ("commands",), SIZES[:1])
@@ -306,7 +308,7 @@ def limit_ends():
     for name, subjects in ("KEY_NESTING = 8", ("sets", "keys", "commands")), ("SHOWN_AUTH_LIMIT = 65_535", ("shapes", "commands")):
         yield from next_to(name.split(" =")[0], name, f"{name} + {{}}", subjects)
     yield from next_to("KEY_SET_LIMIT", "demand(len(data) <= KEY_SET_LIMIT", "demand(len(data) <= KEY_SET_LIMIT + {}", ("sets", "commands"))
-    yield from next_to("PAYLOAD_LIMIT", "PAYLOAD_LIMIT = 2**56 - 1", "PAYLOAD_LIMIT = 2**56 - 1 + {}", ("messages", "detached", "made"))
+    yield from next_to("PAYLOAD_LIMIT", "PAYLOAD_LIMIT = 2**56 - 1", "PAYLOAD_LIMIT = 2**56 - 1 + {}", ("messages", "detached", "made", "signed"))
     for size, fields in ("small", ("reading.HEADER_LIMIT", "reading.NESTING", "reading.USABLE_KEYS", "CLAIMS_LIMIT")), ("large", None):
         for at, name in enumerate(("header", "nesting", "usable_keys", "claims")):
             if size == "small":
@@ -317,8 +319,8 @@ def limit_ends():
                 numbers[at] += " + {}"
                 new = f"Limits({', '.join(numbers)})"
                 yield from next_to(f"--limits large: {name}", "Limits(65_535, 16, 256, 65_535)", new, ("commands",), PROGRAM)
-    yield from next_to("--kid", "len(kid) > KID_LIMIT", "len(kid) > KID_LIMIT + {}", ("made", "commands"), PROGRAM)
-    yield from next_to("--aad", "len(aad) > AAD_LIMIT", "len(aad) > AAD_LIMIT + {}", ("made", "commands"), PROGRAM)
+    yield from next_to("--kid", "len(kid) > KID_LIMIT", "len(kid) > KID_LIMIT + {}", ("made", "signed", "commands"), PROGRAM)
+    yield from next_to("--aad", "len(aad) > AAD_LIMIT", "len(aad) > AAD_LIMIT + {}", ("made", "signed", "commands"), PROGRAM)
     old = "payload_limit = limits.claims if has_payload"
     yield from next_to("show --with-payload: the most bytes", old, old.replace("claims", "claims + {}"), ("commands",), PROGRAM)
     old = "len(payload), nesting)"

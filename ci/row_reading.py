@@ -184,7 +184,10 @@ def choices(reading, _program, group, test):
             pairs[label] = None, item_of(reading, spelled(reading, test[name], is_hex=name == "kid"))
     key, alg = reading.choose_key(usable, test["kind"], protected, unprotected, 0)
     material = {"secret": key.secret.hex()} if key.secret is not None else {"curve": key.curve, "x": key.x.hex()}
-    return {"verdict": "found", "alg": alg, **material}
+    # a row under restrictions doesn't say where the key stands
+    before = next(before for before, usable_key in enumerate(usable) if usable_key is key)
+    index = {"index": before} if "index" in test["result"] else {}
+    return {"verdict": "found", **index, "alg": alg, **material}
 
 
 def spelled(reading, value, is_hex=False):
@@ -288,6 +291,21 @@ def made(_reading, program, group, test):
         return {"verdict": "fault", "fault": "ShortPayload", "message": cut.args[0].hex(), "left": left}
     except program.Fault as fault:
         # the library has one fault for each part that is too long
+        name = str(fault).split()[-1].replace("aad", "TooLong")
+        return {"verdict": "fault", "fault": name, "message": "", "left": len(payload)}
+
+
+def signed(_reading, program, _group, test):
+    payload, length = bytes.fromhex(test["payload"]), int(test["payloadLength"])
+    options = {name: test[name] for name in ("kid", "aad") if name in test}
+    left = len(payload) - min(length, len(payload))
+    try:
+        message, digest = program.sign(test["alg"], options, length, payload, bytes.fromhex(test["signature"]))
+        return {"verdict": "message", "digest": digest.hex(), "message": message.hex(), "left": left}
+    except program.CutShort as cut:
+        name = cut.args[1] if len(cut.args) > 1 else "ShortPayload"
+        return {"verdict": "fault", "fault": name, "message": cut.args[0].hex(), "left": left}
+    except program.Fault as fault:
         name = str(fault).split()[-1].replace("aad", "TooLong")
         return {"verdict": "fault", "fault": name, "message": "", "left": len(payload)}
 

@@ -313,6 +313,30 @@ def date_of(seconds):
     return ""
 
 
+def made_front(tag, protected, kid, length, data):
+    """All of a message that precedes its tag or signature (RFC 9052 sections 4.2 and 6.2), where the bytes of its payload are there."""
+    if kid is not None and len(kid) > KID_LIMIT or length > reading.PAYLOAD_LIMIT:
+        raise Fault("make TooLong")
+    unprotected = b"\xa0" if kid is None else bytes([0xA1, reading.KID]) + reading.string(kid)
+    tagged = reading.head(reading.TAG, tag) + b"\x84"
+    made = tagged + reading.string(protected) + unprotected + reading.head(reading.BYTES, length) + data[:length]
+    if len(data) < length:
+        raise CutShort(made)
+    return made
+
+
+def sign(alg, options, length, data, signature):
+    """A COSE_Sign1 with this signature, and the digest that is signed (RFC 9052 sections 4.2 and 4.4)."""
+    if not reading.is_of_kind(alg, "sign1"):
+        raise Fault("make WrongAlgorithm")
+    kid, aad = hexadecimal(options, "kid"), external_data(options)
+    protected = bytes([0xA1, reading.ALG]) + reading.head(reading.NEGATIVE, -1 - alg)
+    made = made_front(18, protected, kid, length, data)
+    if len(signature) != reading.ALGORITHMS[alg].auth_length:
+        raise CutShort(made, "WrongSignature")
+    return made + reading.string(signature), reading.digest_of(alg, reading.structure("sign1", protected, aad, data[:length]))
+
+
 def make(options, data):
     alg, length = int(options["alg"]), int(options["length"])
     key_bytes, kid, aad = hexadecimal(options, "key"), hexadecimal(options, "kid"), external_data(options)
@@ -323,15 +347,9 @@ def make(options, data):
     may_make = key.operations is None or reading.MAC_CREATE in key.operations
     if key.type != reading.SYMMETRIC or key.alg not in (None, alg) or not may_make or not reading.is_of_kind(alg, "mac0"):
         raise Fault("make WrongKey")
-    if kid is not None and len(kid) > KID_LIMIT or length > reading.PAYLOAD_LIMIT:
-        raise Fault("make TooLong")
     protected = bytes([0xA1, reading.ALG, alg])
-    unprotected = b"\xa0" if kid is None else bytes([0xA1, reading.KID]) + reading.string(kid)
-    payload = data[:length]
-    made = b"\xd1\x84" + reading.string(protected) + unprotected + reading.head(reading.BYTES, length) + payload
-    if len(payload) < length:
-        raise CutShort(made)
-    return made + reading.string(reading.mac(alg, key, reading.structure("mac0", protected, aad, payload)))
+    made = made_front(17, protected, kid, length, data)
+    return made + reading.string(reading.mac(alg, key, reading.structure("mac0", protected, aad, data[:length])))
 
 
 def keys(options, data):

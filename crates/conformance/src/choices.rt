@@ -54,6 +54,15 @@ fn is_chosen<'k, K: Keys<'k>>(
     holds(is_expected, Way::Slice)
 }
 
+/// Whether the key that is found stands where it is expected, where that is said, and no place is given where none is found.
+fn is_placed(place: Option<usize>, expected: &Value) -> Result<(), Difference> {
+    let is_expected = match (place, optional_integer(expected, "index")) {
+        (Some(place), Some(expected)) => place as u64 == expected,
+        (place, _) => place.is_some() == (text(expected, "verdict") == "found"),
+    };
+    holds(is_expected, Way::Slice)
+}
+
 /// The numbers of an array, as far as there is memory, where the field is there.
 fn optional_numbers(alloc: Global, group: &Value, name: &str) -> Option<Vec<i128>> {
     let _field = group.get(name)?;
@@ -108,5 +117,7 @@ pub fn run_test(alloc: Global, group: &Value, test: &Value) -> Result<(), Differ
     };
     is_chosen(alloc, &set, &query, expected)?;
     is_chosen(alloc, &table, &query, expected)?;
-    is_chosen(alloc, &&table, &query, expected)
+    is_chosen(alloc, &&table, &query, expected)?;
+    is_placed(set.place(&query), expected)?;
+    is_placed(table.place(&query), expected)
 }

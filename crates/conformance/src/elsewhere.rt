@@ -6,7 +6,7 @@ use crate::streams::{Comparison, Signature};
 use arrayvec::ArrayVec;
 use cose_mac::Running;
 use cose_map::Material;
-use cose_msg::{EcVerifier, FrontPieces, Keys, Status, Verdict, Verifier};
+use cose_msg::{EcVerifier, FrontPieces, Keys, Sink, Status, Verdict, Verifier};
 
 /// The secret of a symmetric key.
 fn secret_of<'k>(material: &Material<'k>) -> &'k [u8] {
@@ -33,12 +33,12 @@ fn begun<'k, const H: usize, const D: usize, K: Keys<'k>>(
     Some(hash)
 }
 
-/// The hash of the structure of a message that is fed in pieces of at most `cut` bytes.
-pub fn feed<'k, const H: usize, const D: usize, K: Keys<'k>>(
+/// The hash of the structure of a message that is fed in pieces of at most `cut` bytes. Its payload goes into the sink.
+pub fn feed<'k, const H: usize, const D: usize, K: Keys<'k>, S: Sink>(
     verifier: &mut Verifier<'k, H, D, K>,
     message: &[u8],
     cut: usize,
-    payload: &mut Comparison<'_>,
+    payload: &mut S,
 ) -> Option<Running>
     requires some { 0 < cut }
 {
@@ -49,7 +49,9 @@ pub fn feed<'k, const H: usize, const D: usize, K: Keys<'k>>(
             hash = begun(verifier);
         }
         let part = fed.payload_of(piece);
-        payload.compare(part);
+        if !part.is_empty() && payload.put(part).is_err() {
+            return None;
+        }
         if let Some(running) = &mut hash {
             running.update(part);
         }
@@ -111,6 +113,28 @@ fn is_signed<'k, const H: usize, const D: usize, K: Keys<'k>>(
     }
 }
 
+/// What a caller finds of a message.
+#[derive(Drop)]
+pub enum Finding {
+    /// The MAC of the structure.
+    Mac(ArrayVec<u8, 64>),
+    /// Whether the signature holds.
+    Answer(bool),
+}
+
+/// What a caller finds of a message that is complete.
+pub fn found<'k, const H: usize, const D: usize, K: Keys<'k>>(
+    verifier: &Verifier<'k, H, D, K>,
+    hash: Running,
+    signature: &Signature,
+) -> Finding {
+    if hash.is_mac() {
+        return Finding::Mac(hash.finish_mac());
+    }
+    let digest: ArrayVec<u8, 64> = hash.finish_digest();
+    Finding::Answer(is_signed(verifier, digest.as_slice(), signature))
+}
+
 /// The verdict on a message that was fed and has no further byte, by what the caller finds.
 pub fn stated<'k, const H: usize, const D: usize, K: Keys<'k>>(
     verifier: &mut Verifier<'k, H, D, K>,
@@ -123,12 +147,82 @@ pub fn stated<'k, const H: usize, const D: usize, K: Keys<'k>>(
     if !verifier.is_complete() || !verifier.is_elsewhere() {
         return None;
     }
-    let hash = hash?;
-    if hash.is_mac() {
-        let mac: ArrayVec<u8, 64> = hash.finish_mac();
-        return Some(verifier.verdict_of_mac(mac.as_slice()));
+    match found(verifier, hash?, signature) {
+        Finding::Mac(mac) => Some(verifier.verdict_of_mac(mac.as_slice())),
+        Finding::Answer(holds) => Some(verifier.verdict_of_answer(holds)),
     }
-    let digest: ArrayVec<u8, 64> = hash.finish_digest();
-    let holds = is_signed(verifier, digest.as_slice(), signature);
-    Some(verifier.verdict_of_answer(holds))
+}
+
+/// What a caller states that doesn't compute honestly.
+#[derive(Clone, Copy)]
+pub enum Lie {
+    /// No bytes.
+    Nothing,
+    /// The MAC without its last byte.
+    Shortened,
+    /// The MAC with a byte more.
+    Lengthened,
+    /// The MAC of another message: one whose payload has a byte more.
+    Another,
+    /// The MAC of a COSE_Sign1, or an answer about the signature of a COSE_Mac0.
+    OtherKind,
+}
+
+/// Each lie.
+pub const LIES: [Lie; 5] = [
+    Lie::Nothing,
+    Lie::Shortened,
+    Lie::Lengthened,
+    Lie::Another,
+    Lie::OtherKind,
+];
+
+/// The MAC that a lie states of a COSE_Mac0 whose structure was hashed.
+fn lied(mut hash: Running, lie: Lie) -> ArrayVec<u8, 65> {
+    if matches!(lie, Lie::Another) {
+        hash.update(&[0]);
+    }
+    let mut stated = ArrayVec::new();
+    if !hash.is_mac() {
+        return stated;
+    }
+    let mac: ArrayVec<u8, 64> = hash.finish_mac();
+    if !matches!(lie, Lie::Nothing) {
+        let _ = stated.try_extend_from_slice(mac.as_slice());
+    }
+    match lie {
+        Lie::Shortened => {
+            let _ = stated.pop();
+        }
+        Lie::Lengthened => {
+            let _ = stated.try_push(0);
+        }
+        _ => {}
+    }
+    stated
+}
+
+/// Whether a message that was fed isn't authentic where the caller states this.
+pub fn is_found_out<'k, const H: usize, const D: usize, K: Keys<'k>>(
+    verifier: &mut Verifier<'k, H, D, K>,
+    hash: Option<Running>,
+    lie: Lie,
+) -> bool {
+    verifier.end();
+    if !verifier.is_complete() || !verifier.is_elsewhere() {
+        return true;
+    }
+    let Some(hash) = hash else {
+        return false;
+    };
+    let verdict = match (hash.is_mac(), lie) {
+        (true, Lie::OtherKind) => verifier.verdict_of_answer(true),
+        (true, _) => verifier.verdict_of_mac(lied(hash, lie).as_slice()),
+        (false, Lie::OtherKind) => {
+            let digest: ArrayVec<u8, 64> = hash.finish_digest();
+            verifier.verdict_of_mac(digest.as_slice())
+        }
+        (false, _) => verifier.verdict_of_answer(false),
+    };
+    matches!(verdict, Verdict::Refused(_))
 }

@@ -22,6 +22,7 @@ mod requirements;
 mod sets;
 mod setting;
 mod shapes;
+mod signed;
 mod streams;
 mod structures;
 mod tokens;
@@ -36,7 +37,7 @@ use std::rt::Files;
 use std::{fs, io};
 
 /// The files, by their schema: those of rows/ but `commands`, which is for the program.
-const SCHEMAS: [&str; 19] = [
+const SCHEMAS: [&str; 20] = [
     "algorithms",
     "heads",
     "items",
@@ -53,6 +54,7 @@ const SCHEMAS: [&str; 19] = [
     "detached",
     "shapes",
     "made",
+    "signed",
     "claims",
     "tokens",
     "requirements",
@@ -84,6 +86,7 @@ fn run_test(alloc: Global, schema: &str, group: &Value, test: &Value) -> Result<
         "detached" => detached::run_test(alloc, group, test),
         "shapes" => shapes::run_test(alloc, group, test),
         "made" => made::run_test(alloc, group, test),
+        "signed" => signed::run_test(alloc, test),
         "claims" => claims::run_test(alloc, group, test),
         "tokens" => tokens::run_test(alloc, group, test),
         "requirements" => requirements::run_test(alloc, group, test),

@@ -4,7 +4,7 @@ ghost use Rattle.std.specs.Prelude.{◌≡◌, ◌≤◌, ◌<◌, false};
 ghost use Rattle.cose_msg.specs.Kept.{is_inspecting};
 ghost use Rattle.cose_msg.specs.Verifier.{is_detached};
 
-use crate::elsewhere;
+use crate::elsewhere::{self, LIES, Lie};
 use crate::expected::Expected;
 use crate::fields::{Difference, Way, bytes, holds, integer, object};
 use crate::setting::Setting;
@@ -155,6 +155,17 @@ fn is_stated<'k, const H: usize, const D: usize, K: Keys<'k>>(
     }
 }
 
+/// Whether a caller that states something else of the message never has it authentic.
+fn is_found_out<'k, const H: usize, const D: usize, K: Keys<'k>>(
+    verifier: &mut Verifier<'k, H, D, K>,
+    case: &Case<'_, '_>,
+    lie: Lie,
+) -> bool {
+    let mut payload = Comparison::new(case.payload);
+    let hash = elsewhere::feed(verifier, case.message, 64, &mut payload);
+    elsewhere::is_found_out(verifier, hash, lie)
+}
+
 /// Whether `verify_slice` gives what is expected, and of each shorter prefix of an authentic message that it is Truncated
 /// at its end.
 fn is_read<'k, const H: usize, const D: usize, K: Keys<'k>>(
@@ -210,6 +221,10 @@ fn run_under_set<'k, const H: usize, const D: usize>(
         if cut > 0 {
             holds(is_stated(&mut asking, case, cut), Way::Elsewhere)?;
         }
+    }
+    'lies: for lie in LIES {
+        let mut asking = Verifier::<H, D>::elsewhere(setting.context(set));
+        holds(is_found_out(&mut asking, case, lie), Way::Elsewhere)?;
     }
     let mut verifier = under_set::<H, D>(setting, set);
     holds(is_read(&mut verifier, case), Way::Slice)

@@ -3,15 +3,17 @@
 ghost use Rattle.std.specs.Prelude.{◌≤◌, ◌<◌};
 
 use crate::claims::{Rules, are_claims};
+use crate::elsewhere::{self, Finding};
 use crate::expected::Refused;
 use crate::fields::{Difference, Way, bytes, holds, integer, object, text};
 use crate::messages::CUTS;
 use crate::setting::Setting;
 use crate::streams::Signature;
 use cose_cwt::{
-    Claims, CwtStop, KeySet, Policy, Reason, Refusal, SliceIntake, Stop, Store, Verifier,
-    verify_cwt,
+    Claims, CwtStop, KeySet, Policy, Reason, Refusal, Requirements, SliceIntake, Stop, Store,
+    TokenStop, Verifier, token_of_answer, token_of_mac, verify_cwt,
 };
+use cose_msg::Status;
 use serde_json::Value;
 use std::alloc::Global;
 
@@ -50,6 +52,45 @@ fn verified<'s, const H: usize, const D: usize>(
         &case.policy,
     )?;
     Ok((claims, verifier.taken()))
+}
+
+/// The same where a caller authenticates the message itself, and `None` where it can't.
+fn stated<'s, const H: usize, const D: usize>(
+    case: &Case<'_, '_>,
+    token: &[u8],
+    cut: usize,
+    store: &'s mut Store<4_096>,
+) -> Option<Result<(Claims<'s>, u64), CwtStop>>
+    requires some_room { 16 ≤ H }
+    requires limit { H ≤ 65535 }
+    requires nesting { D ≤ 32 }
+    requires some { 0 < cut }
+{
+    let mut verifier = Verifier::<H, D>::elsewhere(case.setting.context(case.set));
+    store.clear();
+    let hash = elsewhere::feed(&mut verifier, token, cut, store);
+    if let Status::Refused(refusal) = verifier.end() {
+        return Some(Err(CwtStop::Message(refusal)));
+    }
+    if !verifier.is_complete() || !verifier.is_elsewhere() {
+        return None;
+    }
+    let (policy, nothing) = (&case.policy, Requirements::default());
+    let found = elsewhere::found(&verifier, hash?, &case.signature);
+    let payload = store.bytes();
+    let token = match found {
+        Finding::Mac(mac) => {
+            token_of_mac(&mut verifier, mac.as_slice(), payload, policy, &nothing)
+        }
+        Finding::Answer(holds) => {
+            token_of_answer(&mut verifier, holds, payload, policy, &nothing)
+        }
+    };
+    match token {
+        Ok(token) => Some(Ok((token.claims, verifier.taken()))),
+        Err(TokenStop::Cwt(stop)) => Some(Err(stop)),
+        Err(TokenStop::Unmet(_)) => None,
+    }
 }
 
 /// Whether this is the expected result of a token.
@@ -96,6 +137,12 @@ fn run_at<const H: usize, const D: usize>(
         let mut store = Store::new();
         let seen = verified::<H, D>(case, token, cut, &mut store);
         holds(is_expected(alloc, seen, expected), Way::Verify)?;
+        let mut gathered = Store::new();
+        let is_stated = match stated::<H, D>(case, token, cut, &mut gathered) {
+            Some(seen) => is_expected(alloc, seen, expected),
+            None => false,
+        };
+        holds(is_stated, Way::Elsewhere)?;
     }
     if text(expected, "verdict") == "admitted" {
         'prefixes: for end in 0..integer(expected, "taken") as usize {
