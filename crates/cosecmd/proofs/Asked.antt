@@ -1,39 +1,34 @@
--- The job of some arguments prints what they ask for.
-use Rattle.std.proofs.Common.{◌≡◌, ◌≤◌, ℕ, ℤ, Bool, true, false, List, Option, Some, None, Bor, length, option_map, refl, sym, ap, subst, ◌∙◌, arith}
-use Rattle.std.specs.Prelude.{nat_lt, option_and_then, take, unwrap_or}
+-- What is printed for some arguments is what they ask for.
+use Rattle.std.proofs.Common.{◌≡◌, ◌≤◌, ℕ, ℤ, Bool, true, false, List, Option, Some, None, Bor, Result, length, option_map, refl, sym, ap, subst, ◌∙◌, arith}
+use Rattle.std.specs.Prelude.{IfOk, nat_lt, option_and_then, take, unwrap_or}
 use Rattle.std.proofs.Math.Seq.{take-length}
 use Rattle.std.proofs.lemmas.Bool.{le-ltb}
-use Rattle.cose_cwt.specs.declared.requirements.Requirements.{Requirements}
 use Rattle.cose_cwt.specs.Claims.Audience.{text_value}
+use Rattle.cose_cwt.specs.Admission.{PolicyValue}
 use Rattle.cose_cwt.specs.Requirements.{RequirementsValue}
-use Rattle.cose_cwt.specs.Requirements.View.{requirements_value}
-use Rattle.cose_map.specs.Key.View.{contents}
 use Rattle.cose_msg.specs.declared.context.Wanted.{Wanted}
-use Rattle.cosecmd.specs.declared.job.Details.{Details}
-use Rattle.cosecmd.specs.declared.job.Job.{Job}
-use Rattle.cosecmd.specs.declared.job.Job.TheVariants.{Cwt, Keys, KeysFor, Make}
-use Rattle.cosecmd.specs.declared.job.Question.{Question}
-use Rattle.cosecmd.specs.declared.job.Question.TheVariants as questions
+use Rattle.cosecmd.specs.declared.request.Details.{Details}
+use Rattle.cosecmd.specs.declared.request.Question.{Question}
+use Rattle.cosecmd.specs.declared.fault.Fault.{Fault}
 use Rattle.cosecmd.specs.declared.limits.Limits.{Limits}
+use Rattle.cosecmd.specs.declared.reply.Reply.{Reply}
 use Rattle.cosecmd.specs.declared.request.Cwt.{Cwt as CwtWords}
 use Rattle.cosecmd.specs.declared.request.Keys.{Keys as KeysWords}
 use Rattle.cosecmd.specs.declared.request.Make.{Make as MakeWords}
 use Rattle.cosecmd.specs.declared.request.Request.{Request}
 use Rattle.cosecmd.specs.declared.request.Request.TheVariants as asks
-use Rattle.cosecmd.specs.declared.request.OwnedChecks.{OwnedChecks}
+use Rattle.cosecmd.specs.declared.request.Checks.{Checks}
 use Rattle.cosecmd.specs.declared.request.Payload.{Payload}
 use Rattle.cosecmd.specs.declared.request.Payload.TheVariants.{File}
-use Rattle.cosecmd.specs.declared.job.Checks.{Checks}
-use Rattle.cosecmd.specs.declared.job.FileJob.{FileJob}
-use Rattle.cosecmd.specs.declared.job.TokenJob.{TokenJob}
+use Rattle.cose_map.specs.Key.{key_of}
 use Rattle.cosecmd.specs.Admitted.{program_policy}
-use Rattle.cosecmd.specs.Printed.{Admits, EndsWith, Fails, Output, admits_for_job, admitted_under, answered_under, digested_under, keys_said, printed, shown, verified_under}
-use Rattle.cosecmd.specs.Job.{aad_of, is_make, job_of}
+use Rattle.cosecmd.specs.Faults.{fault_of_making, making_fault}
+use Rattle.cosecmd.specs.Printed.{Admits, EndsWith, Fails, Output, Says, answered_under, keys_said, made_under, shown}
 use Rattle.cosecmd.specs.Options.{part_of_file, stated_part}
 use Rattle.cosecmd.specs.Payload.{detached_in}
 use Rattle.cosecmd.specs.Stated.{answered_from}
 use Rattle.cosecmd.specs.Requirements.{requirements_for}
-use Rattle.cosecmd.specs.Under.{Under, job_under, owned_under}
+use Rattle.cosecmd.specs.Under.{Under, under_of}
 use Rattle.cosecmd.specs.Arguments.{admits_for_words, admitted_for, asked_for, made_for, makes, payload_for}
 
 -- A run that ends with one output ends with an equal one.
@@ -55,52 +50,39 @@ not_made (asks.Cwt words) A by_name other = refl
 not_made (asks.TokenSequence words) A by_name other = refl
 not_made (asks.Keys words) A by_name other = refl
 
-pub message_words : (question : Question) (owned : OwnedChecks) (checks : Checks) (payload : Option (Bor (List ℕ))) (detached : Option (List ℕ)) (bytes : List ℕ) (job : Job) → job ≡ job_of question checks payload →
-    job_under checks ≡ owned_under owned → option_map contents payload ≡ detached → printed job bytes ≡ answered_under question (owned_under owned) detached bytes
-unfolding printed
-message_words questions.Verdict owned checks payload detached bytes job is same p = rw (is, p) (ap (λ (under : Under). verified_under under detached bytes) same)
-message_words questions.Digest owned checks payload detached bytes job is same p = rw (is, p) (ap (λ (under : Under). digested_under under detached bytes) same)
+-- What `cwt` prints of one token, or of each of a sequence, by this policy and with these requirements.
+pub token_words : (admits : Admits) (words : CwtWords) (policy : PolicyValue) (now : ℤ) (requirements : RequirementsValue) (bytes : List ℕ) → policy ≡ program_policy now words.leeway (option_map text_value words.aud) →
+    requirements ≡ requirements_for now words.leeway words.required → now ≡ words.now → admits (under_of words.checks) policy requirements words.readable bytes ≡ admits_for_words admits words bytes
+token_words admits words policy now requirements bytes by required n =
+    ap (λ (p : PolicyValue). admits (under_of words.checks) p requirements words.readable bytes) by
+    ∙ ap (λ (r : RequirementsValue). admits (under_of words.checks) (program_policy now words.leeway (option_map text_value words.aud)) r words.readable bytes) required
+    ∙ ap (λ (at : ℤ). admits (under_of words.checks) (program_policy at words.leeway (option_map text_value words.aud)) (requirements_for at words.leeway words.required) words.readable bytes) n
 
--- It makes no message.
-pub message_is_no_make : (question : Question) (checks : Checks) (payload : Option (Bor (List ℕ))) (job : Job) → job ≡ job_of question checks payload → is_make job ≡ false
-message_is_no_make questions.Verdict checks payload job is = rw is refl
-message_is_no_make questions.Digest checks payload job is = rw is refl
+-- A message that is made of the bytes of the arguments.
+pub making_words : (words : MakeWords) (key : List ℕ) (kid : Option (List ℕ)) (aad bytes : List ℕ) → key ≡ words.key.items → kid ≡ option_map (λ word. word.items) words.kid → aad ≡ words.aad.items →
+    made_under (key_of (record { bytes = key; place = 0 })) words.alg words.length kid aad bytes ≡ made_for words bytes
+making_words words key kid aad bytes k i a = rw (k, i, a) refl
 
-pub message_external : (question : Question) (checks : Checks) (payload : Option (Bor (List ℕ))) (job : Job) → job ≡ job_of question checks payload → length checks.aad.now ≤ 65535 → length (aad_of job) ≤ 65535
-message_external questions.Verdict checks payload job is few = rw is few
-message_external questions.Digest checks payload job is few = rw is few
+pub making_fault_words : (words : MakeWords) (key : List ℕ) (kid : Option (List ℕ)) (aad : List ℕ) → key ≡ words.key.items → kid ≡ option_map (λ word. word.items) words.kid → aad ≡ words.aad.items →
+    fault_of_making (key_of (record { bytes = key; place = 0 })) words.alg kid aad words.length ≡ making_fault words
+making_fault_words words key kid aad k i a = rw (k, i, a) refl
 
--- The same for what `cwt` prints of one token, or of each of a sequence.
-pub token_words : (admits : Admits) (words : CwtWords) (checks : Checks) (now : ℤ) (requirements : Requirements) (bytes : List ℕ) → job_under checks ≡ owned_under words.checks → now ≡ words.now →
-    requirements_value requirements ≡ requirements_for now words.leeway words.required →
-    admits (job_under checks) (program_policy now words.leeway (option_map text_value words.aud)) (requirements_value requirements) words.readable bytes ≡ admits_for_words admits words bytes
-token_words admits words checks now requirements bytes same n required =
-    ap (λ (r : RequirementsValue). admits (job_under checks) (program_policy now words.leeway (option_map text_value words.aud)) r words.readable bytes) required
-    ∙ ap (λ (at : ℤ). admits (job_under checks) (program_policy at words.leeway (option_map text_value words.aud)) (requirements_for at words.leeway words.required) words.readable bytes) n
-    ∙ ap (λ (under : Under). admits under (program_policy words.now words.leeway (option_map text_value words.aud)) (requirements_for words.now words.leeway words.required) words.readable bytes) same
-
-pub token_printed : (job : TokenJob) (words : CwtWords) (bytes : List ℕ) → admits_for_job admitted_under job bytes ≡ admitted_for words bytes → printed (Cwt job) bytes ≡ admitted_for words bytes
-unfolding printed
-token_printed job words bytes same = same
-
-pub keys_words : (words : KeysWords) (keys : Bor (List ℕ)) (bytes : List ℕ) → keys.now ≡ words.keys.items → words.message ≡ None →
-    printed (Keys keys) bytes ≡ keys_said words.message words.keys.items bytes
-unfolding printed
-keys_words words keys bytes k none = rw (k, none) refl
-
-pub keys_for_words : (words : KeysWords) (keys : Bor (List ℕ)) (wanted : Wanted) (bytes : List ℕ) → keys.now ≡ words.keys.items → words.message ≡ Some wanted →
-    printed (KeysFor keys wanted) bytes ≡ keys_said words.message words.keys.items bytes
-unfolding printed
-keys_for_words words keys wanted bytes k some = rw (k, some) refl
-
-pub make_words : (words : MakeWords) (key aad : Bor (List ℕ)) (kid : Option (Bor (List ℕ))) (bytes : List ℕ) → key.now ≡ words.key.items → aad.now ≡ words.aad.items →
-    option_map contents kid ≡ option_map (λ word. word.items) words.kid → printed (Make words.alg key words.length kid aad) bytes ≡ made_for words bytes
-unfolding printed
-make_words words key aad kid bytes k a v = rw (k, a, v) refl
+-- A reply with one output is one with an equal output.
+pub says_equal_words : {said asked : Output} (reply : Result Reply Fault) → said ≡ asked → IfOk reply (Says said) → IfOk reply (Says asked)
+says_equal_words reply e says = subst (λ (output : Output). IfOk reply (Says output)) e says
 
 pub show_words : (request : Request) (limits : Limits) (wanted : Wanted) (details : Details) (payload : Option (List ℕ)) (bytes : List ℕ) → request ≡ asks.Show limits wanted details →
     shown limits wanted details bytes ≡ asked_for request payload bytes
 show_words request limits wanted details payload bytes is = rw is refl
+
+pub cwt_words : (request : Request) (words : CwtWords) (payload : Option (List ℕ)) (bytes : List ℕ) → request ≡ asks.Cwt words → admitted_for words bytes ≡ asked_for request payload bytes
+cwt_words request words payload bytes is = rw is refl
+
+pub keys_words : (request : Request) (words : KeysWords) (payload : Option (List ℕ)) (bytes : List ℕ) → request ≡ asks.Keys words → keys_said words.message words.keys.items bytes ≡ asked_for request payload bytes
+keys_words request words payload bytes is = rw is refl
+
+pub make_words : (request : Request) (words : MakeWords) (payload : Option (List ℕ)) (bytes : List ℕ) → request ≡ asks.Make words → made_for words bytes ≡ asked_for request payload bytes
+make_words request words payload bytes is = rw is refl
 
 -- ---- a payload in a file
 
@@ -134,17 +116,17 @@ pub known_part : (content : Option (List ℕ)) (stated : Option ℕ) (payload : 
 known_part None stated payload is = cc
 known_part (Some bytes) stated payload is = record { bytes = bytes; known = refl; part = stated_is_part stated bytes payload is }
 
-pub file_words : (job : FileJob) (content payload bytes : List ℕ) → Part job.length content payload →
-    answered_from job content bytes ≡ answered_under job.question (job_under job.checks) (Some payload) bytes
-file_words job content payload bytes is = rw (is.enough, is.part) refl
+pub file_words : (question : Question) (under : Under) (payload_length : ℕ) (content payload bytes : List ℕ) → Part payload_length content payload →
+    answered_from question under payload_length content bytes ≡ answered_under question under (Some payload) bytes
+file_words question under payload_length content payload bytes is = rw (is.enough, is.part) refl
 
 -- The request of a message asks for what is asked of it.
-pub message_request_words : (request : Request) (question : Question) (checks : OwnedChecks) (from : Payload) (payload : Option (List ℕ)) (bytes : List ℕ) → request ≡ asks.Message question checks from →
-    answered_under question (owned_under checks) payload bytes ≡ asked_for request payload bytes
+pub message_request_words : (request : Request) (question : Question) (checks : Checks) (from : Payload) (payload : Option (List ℕ)) (bytes : List ℕ) → request ≡ asks.Message question checks from →
+    answered_under question (under_of checks) payload bytes ≡ asked_for request payload bytes
 message_request_words request question checks from payload bytes is = rw is refl
 
 -- Its payload, where it is in the message, in an argument or in a file.
-pub payload_of_request : (content : List ℕ → Option (List ℕ)) (request : Request) (question : Question) (checks : OwnedChecks) (from : Payload) (payload : Option (List ℕ)) → request ≡ asks.Message question checks from →
+pub payload_of_request : (content : List ℕ → Option (List ℕ)) (request : Request) (question : Question) (checks : Checks) (from : Payload) (payload : Option (List ℕ)) → request ≡ asks.Message question checks from →
     payload_for content request ≡ Some payload → detached_in content from ≡ Some payload
 payload_of_request content request question checks from payload is known = sym (ap (payload_for content) is) ∙ known
 

@@ -1,14 +1,17 @@
 -- What a message asks of its key: under no key nothing is authentic, and its first bytes decide it.
-use Rattle.std.proofs.Common.{◌≡◌, ℕ, ◌+◌, ◌*◌, ◌<◌, ◌≤◌, Bool, true, false, List, [], ◌∷◌, take, drop, length, Option, Some, Result, Ok, Err, refl, sym, ap, subst, ◌∙◌, arith}
+use Rattle.std.proofs.Common.{◌≡◌, ℕ, ◌+◌, ◌*◌, ◌<◌, ◌≤◌, Bool, true, false, List, [], ◌∷◌, ◌++◌, take, drop, length, Option, Some, Result, Ok, Err, refl, sym, ap, subst, ◌∙◌, arith}
 use Rattle.std.specs.Prelude.{IfOk, IsOk, nat_lt, if◌then◌else◌, string_bytes}
 use Rattle.std.proofs.lemmas.Bool.{ltb-false, ltb-true}
-use Rattle.std.proofs.lemmas.List.{length-take, take-append-drop, take_all}
+use Rattle.std.proofs.lemmas.List.{drop-append-le, length-drop, length-take, take-append-drop, take_all}
 use Rattle.cose_head.specs.declared.algorithm.Alg.{Alg}
 use Rattle.cose_head.specs.declared.kind.Kind.{Kind}
 use Rattle.cose_head.specs.declared.kind.Kind.TheVariants as kinds
 use Rattle.cose_head.specs.declared.reason.Reason.TheVariants.{UnknownAlg}
 use Rattle.cose_head.specs.declared.refusal.Refusal.{Refusal}
-use Rattle.cose_head.specs.Head.{bare_head}
+use Rattle.cose_head.specs.declared.head.HeadStep.{HeadStep}
+use Rattle.cose_head.specs.declared.head.HeadStep.TheVariants.{Got, More, Fault}
+use Rattle.cose_head.specs.Head.{IsMore, IsWhole, bare_head}
+use Rattle.cose_head.specs.Laws.{HalfIsShort, HeadFits, HeadStays}
 use Rattle.cose_head.specs.Item.{depth_of}
 use Rattle.cose_head.specs.Placed.{Placed, children_of, head_of_item, items_from, look}
 use Rattle.cose_head.specs.Reading.{read, head}
@@ -26,6 +29,7 @@ use Rattle.cose_msg.specs.declared.context.Wanted.{Wanted}
 use Rattle.cose_msg.specs.declared.context.Wanted.TheVariants as wants
 use Rattle.cose_msg.specs.declared.verdict.Verdict.TheVariants.{Authentic, Refused}
 use Rattle.cose_msg.specs.Answer.{Answer, Chosen, Headers, decided, complete, shaped}
+use Rattle.cose_msg.specs.Front.{is_cwt_tag}
 use Rattle.cose_msg.specs.GrammarLaws.{AuthenticIsMessage}
 use Rattle.cose_msg.specs.Laws.{MessageIsBounded, MessageStays, payload_inside}
 use Rattle.cose_msg.specs.Message.{Setting, as_choice, comparing, key_choice_of, message, past_chosen, question_of, verdict_of, verifying}
@@ -33,7 +37,7 @@ use Rattle.cose_msg.specs.Reading.{Findings, Reading}
 use Rattle.cose_msg.specs.Rules.{Rules}
 use Rattle.cose_msg.specs.Slice.{outcome_of}
 use Rattle.cosecmd.specs.declared.reply.Reply.{Reply}
-use Rattle.cosecmd.specs.AskedKeys.{asked, headers_found, headers_setting, headers_verdict, is_of_choice, is_refused_for_tag, kind_asked, question_in, question_with, unless_refused}
+use Rattle.cosecmd.specs.AskedKeys.{asked, headers_found, headers_setting, headers_verdict, is_of_choice, kind_asked, kind_tagged, number_after, number_of_tag, cose_tag, question_in, question_with, unless_refused}
 use Rattle.cosecmd.specs.Printed.{ItemsPrint, Output, Says, items_listed, items_listed_for, keys_print, said_of}
 
 -- ---- under no key
@@ -130,7 +134,35 @@ says_of_items said bytes set item count reply read is counted says =
 
 -- ---- the first bytes
 
-module _ (bounded : MessageIsBounded) (stays : MessageStays) where
+-- So many bytes have the head that they begin with.
+long_head : HeadStays → HalfIsShort → (front rest : List ℕ) → 9 ≤ length front → bare_head (front ++ rest) ≡ bare_head front
+long_head stays short front rest long = stays front rest (whole (bare_head front) refl)
+  where
+    whole : (step : HeadStep) → bare_head front ≡ step → IsWhole (bare_head front)
+    whole (Got head used) e = subst IsWhole (sym e) tt
+    whole (More missing) e =
+        let few : length front < 9 = short front (subst IsMore (sym e) tt) in
+        absurd (omega (arith, few, long))
+    whole (Fault reason) e = subst IsWhole (sym e) tt
+
+-- And those of both tags.
+long_tags : HeadStays → HalfIsShort → HeadFits → (front rest : List ℕ) → 18 ≤ length front → cose_tag (front ++ rest) ≡ cose_tag front
+long_tags stays short fits front rest long =
+    ap (number_after (front ++ rest)) (long_head stays short front rest (omega (arith, long))) ∙ go (bare_head front) refl
+  where
+    go : (step : HeadStep) → bare_head front ≡ step → number_after (front ++ rest) step ≡ number_after front step
+    go (Got head used) e =
+        let fit = fits front head used e in
+        let few : used ≤ 9 = fit.1 in
+        let there : used ≤ length front = fit.2 in
+        let left : 9 ≤ length (drop used front) = rw (length-drop used front) (omega (arith, few, long)) in
+        let next : bare_head (drop used (front ++ rest)) ≡ bare_head (drop used front) =
+        ap bare_head (drop-append-le used front rest there) ∙ long_head stays short (drop used front) rest left in
+        ap (λ (step : HeadStep). if is_cwt_tag true head then number_of_tag step else number_of_tag (Got head used)) next
+    go (More missing) e = refl
+    go (Fault reason) e = refl
+
+module _ (bounded : MessageIsBounded) (stays : MessageStays) (head_stays : HeadStays) (half_short : HalfIsShort) (head_fits : HeadFits) where
   enough : (rules : Rules) → ((headers : Headers) (found : Option Chosen) → rules.choice headers ≡ Ok found → ⊥) → (2 * rules.room + 54 + payload_inside rules.source rules.payload_limit + 0 ≤ 131124) →
       (bytes : List ℕ) → message rules (take 131124 bytes) ≡ message rules bytes
   enough rules none room bytes = go (nat_lt 131124 (length bytes)) refl
@@ -155,7 +187,16 @@ module _ (bounded : MessageIsBounded) (stays : MessageStays) where
   kind_said : (wanted : Wanted) (bytes : List ℕ) → kind_asked wanted (take 131124 bytes) ≡ kind_asked wanted bytes
   kind_said wants.Mac0 bytes = refl
   kind_said wants.Sign1 bytes = refl
-  kind_said wants.Tagged bytes = ap (λ (a : Answer). if is_refused_for_tag a then kinds.Sign1 else kinds.Mac0) (same_verdict wants.Mac0 bytes)
+  kind_said wants.Tagged bytes = ap kind_tagged (go (nat_lt 131124 (length bytes)) refl)
+    where
+      go : (long : Bool) → nat_lt 131124 (length bytes) ≡ long → cose_tag (take 131124 bytes) ≡ cose_tag bytes
+      go false e =
+          let fits : length bytes ≤ 131124 = let f = ltb-false 131124 (length bytes) e in omega (arith, f) in
+          ap cose_tag (take_all 131124 bytes fits)
+      go true e =
+          let more : 131124 < length bytes = ltb-true 131124 (length bytes) e in
+          let n : length (take 131124 bytes) ≡ 131124 = let m = length-take 131124 bytes in omega (arith, m, more) in
+          sym (long_tags head_stays half_short head_fits (take 131124 bytes) (drop 131124 bytes) (omega (arith, n))) ∙ ap cose_tag (take-append-drop 131124 bytes)
 
   -- What a message asks is what its first bytes ask.
   pub same_asked : (wanted : Wanted) (bytes : List ℕ) → asked wanted (take 131124 bytes) ≡ asked wanted bytes

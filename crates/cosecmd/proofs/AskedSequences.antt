@@ -9,11 +9,11 @@ use Rattle.cosecmd.specs.Fields.{AreChecks}
 use Rattle.cosecmd.specs.Options.{◌>>=◌}
 use Rattle.cosecmd.specs.Printed.{Fails, Output}
 use Rattle.cosecmd.specs.Sequence.{FailsInSequence, verified_sequence}
-use Rattle.cosecmd.specs.Under.{Under, owned_under}
+use Rattle.cosecmd.specs.Under.{Under, under_of}
 use Rattle.cosecmd.specs.declared.fault.Fault.{Fault}
 use Rattle.cosecmd.specs.declared.fault.Fault.TheVariants as faults
 use Rattle.cosecmd.specs.declared.request.Cwt.{Cwt}
-use Rattle.cosecmd.specs.declared.request.OwnedChecks.{OwnedChecks}
+use Rattle.cosecmd.specs.declared.request.Checks.{Checks}
 use Rattle.cosecmd.specs.declared.request.Request.{Request}
 use Rattle.cosecmd.specs.declared.request.Request.TheVariants as asks
 
@@ -28,15 +28,15 @@ not_of_sequence request by_option only other = go (is_sequence request) refl
     go false is = is
 
 -- The checks that the options state are those that they ask for.
-pub sequence_asks : (under : Option Under) (checks : OwnedChecks) (bytes : List ℕ) (said : Output) → AreChecks under checks → (do under ← under; Some (verified_sequence under bytes)) ≡ Some said →
-    verified_sequence (owned_under checks) bytes ≡ said
+pub sequence_asks : (under : Option Under) (checks : Checks) (bytes : List ℕ) (said : Output) → AreChecks under checks → (do under ← under; Some (verified_sequence under bytes)) ≡ Some said →
+    verified_sequence (under_of checks) bytes ≡ said
 sequence_asks None checks bytes said are e = cc
 sequence_asks (Some under) checks bytes said are e =
     let same : verified_sequence under bytes ≡ said = cc in
     ap (λ (u : Under). verified_sequence u bytes) (are under refl) ∙ same
 
 -- The request for a sequence asks for what is printed for it.
-pub message_sequence_words : (request : Request) (checks : OwnedChecks) (payload : Option (List ℕ)) (bytes : List ℕ) → request ≡ asks.MessageSequence checks → verified_sequence (owned_under checks) bytes ≡ asked_for request payload bytes
+pub message_sequence_words : (request : Request) (checks : Checks) (payload : Option (List ℕ)) (bytes : List ℕ) → request ≡ asks.MessageSequence checks → verified_sequence (under_of checks) bytes ≡ asked_for request payload bytes
 message_sequence_words request checks payload bytes is = rw is refl
 
 pub token_sequence_words : (request : Request) (words : Cwt) (payload : Option (List ℕ)) (bytes : List ℕ) → request ≡ asks.TokenSequence words → admitted_each_for words bytes ≡ asked_for request payload bytes

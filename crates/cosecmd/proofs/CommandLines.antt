@@ -18,12 +18,12 @@ use Rattle.cosecmd.specs.Options.{Options, ◌>>=◌, flag_in, key_in, key_set_i
 use Rattle.cosecmd.specs.PayloadTo.{checks_named, new_file_of}
 use Rattle.cosecmd.specs.Printed.{Admits, Output, items_listed, items_listed_for, keys_said, made_under}
 use Rattle.cosecmd.specs.Requirements.{requirements_with}
-use Rattle.cosecmd.specs.Under.{Under, owned_under}
+use Rattle.cosecmd.specs.Under.{Under, under_of}
 use Rattle.cosecmd.specs.Arguments.{admits_for_words, made_for}
 use Rattle.cosecmd.specs.declared.request.Cwt.{Cwt}
 use Rattle.cosecmd.specs.declared.request.Keys.{Keys}
 use Rattle.cosecmd.specs.declared.request.Make.{Make}
-use Rattle.cosecmd.specs.declared.request.OwnedChecks.{OwnedChecks}
+use Rattle.cosecmd.specs.declared.request.Checks.{Checks}
 use Rattle.cosecmd.specs.declared.reply.Reply.{Reply}
 use Rattle.cosecmd.specs.declared.reply.Status.TheVariants as statuses
 use Rattle.cosecmd.specs.declared.arguments.Parsed.{Parsed}
@@ -31,9 +31,9 @@ use Rattle.cosecmd.specs.declared.arguments.Parsed.TheVariants.{Matches, Text as
 use Rattle.cosecmd.proofs.RequiredOptions.{same_requirements}
 
 -- The checks and the payload that the options state are those that they ask for, and this is printed for them.
-pub payload_asks : (prints : Under → Option (List ℕ) → List ℕ → Output) (under : Option Under) (found : Option (Option (List ℕ))) (checks : OwnedChecks) (payload : Option (Option (List ℕ))) (bytes : List ℕ) (said : Output)
+pub payload_asks : (prints : Under → Option (List ℕ) → List ℕ → Output) (under : Option Under) (found : Option (Option (List ℕ))) (checks : Checks) (payload : Option (Option (List ℕ))) (bytes : List ℕ) (said : Output)
     → AreChecks under checks → payload ≡ found → (do under ← under; payload ← found; Some (prints under payload bytes)) ≡ Some said
-    → (detached : Option (List ℕ)) × (payload ≡ Some detached) × (prints (owned_under checks) detached bytes ≡ said)
+    → (detached : Option (List ℕ)) × (payload ≡ Some detached) × (prints (under_of checks) detached bytes ≡ said)
 payload_asks prints None found checks payload bytes said are is e = cc
 payload_asks prints (Some under) None checks payload bytes said are is e = cc
 payload_asks prints (Some under) (Some detached) checks payload bytes said are is e =
@@ -55,9 +55,9 @@ cwt_asks admits content options words bytes said fields prints = go (checks_in c
         let some : Some (admits under (program_policy words.now words.leeway (text_in (codes "aud") options)) required (flag_in (codes "text") options) bytes) ≡ Some said =
         rw (checks, fields.now, fields.leeway, fields.required.present) at prints in
         let same : admits under (program_policy words.now words.leeway (text_in (codes "aud") options)) required (flag_in (codes "text") options) bytes ≡ said = cc in
-        ap (λ (r : RequirementsValue). admits (owned_under words.checks) (program_policy words.now words.leeway (option_map text_value words.aud)) r words.readable bytes)
-        (same_requirements words.now words.leeway options words.required fields.required) ∙ ap (λ (aud : Option (List ℕ)). admits (owned_under words.checks) (program_policy words.now words.leeway aud) required words.readable bytes) fields.aud
-        ∙ ap (λ (readable : Bool). admits (owned_under words.checks) (program_policy words.now words.leeway (text_in (codes "aud") options)) required readable bytes) fields.readable
+        ap (λ (r : RequirementsValue). admits (under_of words.checks) (program_policy words.now words.leeway (option_map text_value words.aud)) r words.readable bytes)
+        (same_requirements words.now words.leeway options words.required fields.required) ∙ ap (λ (aud : Option (List ℕ)). admits (under_of words.checks) (program_policy words.now words.leeway aud) required words.readable bytes) fields.aud
+        ∙ ap (λ (readable : Bool). admits (under_of words.checks) (program_policy words.now words.leeway (text_in (codes "aud") options)) required readable bytes) fields.readable
         ∙ ap (λ (u : Under). admits u (program_policy words.now words.leeway (text_in (codes "aud") options)) required (flag_in (codes "text") options) bytes) (fields.checks under checks) ∙ same
 
 -- For a message or for none, the lines of these bytes are those of the argument or of the file.

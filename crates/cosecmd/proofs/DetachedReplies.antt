@@ -17,15 +17,14 @@ use Rattle.cose_msg.specs.Shown.{SignInput, sign_input_in}
 use Rattle.cose_msg.specs.Unrefused.{UnrefusedIsMessage}
 use Rattle.cosecmd.specs.declared.fault.Fault.{Fault}
 use Rattle.cosecmd.specs.declared.fault.Fault.TheVariants as faults
-use Rattle.cosecmd.specs.declared.job.FileJob.{FileJob}
-use Rattle.cosecmd.specs.declared.job.Question.{Question}
-use Rattle.cosecmd.specs.declared.job.Question.TheVariants as questions
+use Rattle.cosecmd.specs.declared.request.Question.{Question}
+use Rattle.cosecmd.specs.declared.request.Question.TheVariants as questions
 use Rattle.cosecmd.specs.declared.reply.Reply.{Reply}
 use Rattle.cosecmd.specs.Faults.{FailsForKeys}
 use Rattle.cosecmd.specs.PayloadFile.{counted, never}
 use Rattle.cosecmd.specs.Printed.{Output, Says, answered_in, answered_under, digested_as, digested_before, output_of, setting_under, signature_asked, trailed, with_payload}
 use Rattle.cosecmd.specs.Stated.{AnsweredOf, RepliesWith, answered_from, answered_of_short, answered_short, payload_wanted_of, stating, unless_missing}
-use Rattle.cosecmd.specs.Under.{Under, job_under}
+use Rattle.cosecmd.specs.Under.{Under}
 use Rattle.cosecmd.specs.Vouch.{vouching}
 use Rattle.cosecmd.proofs.MessageReplies.{is_answered, says_equal, wanted_whole}
 use Rattle.cosecmd.proofs.Replies.{said_with_keys}
@@ -144,54 +143,51 @@ module _ (question : Question) (under : Under) (last : VerifyingGoesLast) (stays
       says_equal result _ _ (sym (said_with_keys under.keys keys _ read))
       (says_of_whole question under.room.header under.room.nesting last (vouching under.vouch) stays (setting_under under keys) (length payload) bytes payload come after ended result told (replies bytes keys refl read)))
 
-module _ (last : VerifyingGoesLast) (stays : PayloadStays) (job : FileJob) (content bytes : List ℕ) (left : ℕ) (after : Option (List ℕ)) (ended : Bool) (small : job.length < 2 ^ 64) (small_left : left < 2 ^ 64) where
-  abbrev under : Under
-  under = job_under job.checks
-
-  short_said : (keys : List KeyValue) (said : Reply) → under.keys ≡ Ok keys → nat_lt (length content) job.length ≡ true →
-      AnsweredOf job.question under.room.header under.room.nesting (setting_under under keys) (vouching under.vouch) job.length bytes (counted job.length (Some content)) (counted left after) ended said → (ended ≡ true → left ≡ 0) →
-      Says (answered_from job content bytes) said
+module _ (question : Question) (under : Under) (payload_length : ℕ) (last : VerifyingGoesLast) (stays : PayloadStays) (content bytes : List ℕ) (left : ℕ) (after : Option (List ℕ)) (ended : Bool) (small : payload_length < 2 ^ 64) (small_left : left < 2 ^ 64) where
+  short_said : (keys : List KeyValue) (said : Reply) → under.keys ≡ Ok keys → nat_lt (length content) payload_length ≡ true →
+      AnsweredOf question under.room.header under.room.nesting (setting_under under keys) (vouching under.vouch) payload_length bytes (counted payload_length (Some content)) (counted left after) ended said → (ended ≡ true → left ≡ 0) →
+      Says (answered_from question under payload_length content bytes) said
   short_said keys said read e of ends =
       let setting = setting_under under keys in
-      let fewer : length content < job.length = ltb-true (length content) job.length e in
+      let fewer : length content < payload_length = ltb-true (length content) payload_length e in
       let consumes : Consumes (Some (content ++ never (2 ^ 65))) (counted left after) of.came = rw e at of.consumes in
-      let part = came_of_short job.length left content after of.came fewer small small_left of.within consumes in
-      let none : payload_wanted_of under.room.header under.room.nesting (stating of.came job.length setting) bytes ≡ 0 =
+      let part = came_of_short payload_length left content after of.came fewer small small_left of.within consumes in
+      let none : payload_wanted_of under.room.header under.room.nesting (stating of.came payload_length setting) bytes ≡ 0 =
       none_of _ (λ some. let zero_left = ends (of.ends some).0 in omega (arith, zero_left, part.2)) in
-      let same = short_answered job.question under.room.header under.room.nesting last (vouching under.vouch) stays setting job.length bytes content of.came part.0 part.1 none in
-      let from : answered_from job content bytes ≡ answered_short job.question under job.length content bytes = rw e refl in
-      let short : answered_short job.question under job.length content bytes ≡ answered_of_short job.question under.room.header under.room.nesting (stating content job.length setting) (vouching under.vouch) bytes =
+      let same = short_answered question under.room.header under.room.nesting last (vouching under.vouch) stays setting payload_length bytes content of.came part.0 part.1 none in
+      let from : answered_from question under payload_length content bytes ≡ answered_short question under payload_length content bytes = rw e refl in
+      let short : answered_short question under payload_length content bytes ≡ answered_of_short question under.room.header under.room.nesting (stating content payload_length setting) (vouching under.vouch) bytes =
       said_with_keys under.keys keys _ read in
       subst (λ (o : Output). Says o said) (sym (from ∙ short ∙ same)) of.says
 
-  whole_said : (keys : List KeyValue) (result : Result Reply Fault) → under.keys ≡ Ok keys → nat_lt (length content) job.length ≡ false →
-      IfOk result (AnsweredOf job.question under.room.header under.room.nesting (setting_under under keys) (vouching under.vouch) job.length bytes (counted job.length (Some content)) (counted left after) ended) →
-      IfOk result (Says (answered_from job content bytes))
+  whole_said : (keys : List KeyValue) (result : Result Reply Fault) → under.keys ≡ Ok keys → nat_lt (length content) payload_length ≡ false →
+      IfOk result (AnsweredOf question under.room.header under.room.nesting (setting_under under keys) (vouching under.vouch) payload_length bytes (counted payload_length (Some content)) (counted left after) ended) →
+      IfOk result (Says (answered_from question under payload_length content bytes))
   whole_said keys result read e of =
       let setting = setting_under under keys in
-      let enough : job.length ≤ length content = let f = ltb-false (length content) job.length e in omega (arith, f) in
-      let count : length (take job.length content) ≡ job.length = length-take-le job.length content enough in
-      let told : counted job.length (Some content) ≡ Some (take job.length content) = rw e refl in
-      let said = says_of_whole job.question under.room.header under.room.nesting last (vouching under.vouch) stays setting job.length bytes (take job.length content) (counted job.length (Some content)) (counted left after) ended result told of in
-      let stated : answered_in job.question under.room.header under.room.nesting (stating (take job.length content) job.length setting) (vouching under.vouch) bytes
-      ≡ answered_in job.question under.room.header under.room.nesting (with_payload (Some (take job.length content)) setting) (vouching under.vouch) bytes =
-      ap (λ (n : ℕ). answered_in job.question under.room.header under.room.nesting (stating (take job.length content) n setting) (vouching under.vouch) bytes) (sym count) in
-      let from : answered_from job content bytes ≡ answered_under job.question under (Some (take job.length content)) bytes = rw e refl in
-      let by_keys : answered_under job.question under (Some (take job.length content)) bytes
-      ≡ answered_in job.question under.room.header under.room.nesting (with_payload (Some (take job.length content)) setting) (vouching under.vouch) bytes =
+      let enough : payload_length ≤ length content = let f = ltb-false (length content) payload_length e in omega (arith, f) in
+      let count : length (take payload_length content) ≡ payload_length = length-take-le payload_length content enough in
+      let told : counted payload_length (Some content) ≡ Some (take payload_length content) = rw e refl in
+      let said = says_of_whole question under.room.header under.room.nesting last (vouching under.vouch) stays setting payload_length bytes (take payload_length content) (counted payload_length (Some content)) (counted left after) ended result told of in
+      let stated : answered_in question under.room.header under.room.nesting (stating (take payload_length content) payload_length setting) (vouching under.vouch) bytes
+      ≡ answered_in question under.room.header under.room.nesting (with_payload (Some (take payload_length content)) setting) (vouching under.vouch) bytes =
+      ap (λ (n : ℕ). answered_in question under.room.header under.room.nesting (stating (take payload_length content) n setting) (vouching under.vouch) bytes) (sym count) in
+      let from : answered_from question under payload_length content bytes ≡ answered_under question under (Some (take payload_length content)) bytes = rw e refl in
+      let by_keys : answered_under question under (Some (take payload_length content)) bytes
+      ≡ answered_in question under.room.header under.room.nesting (with_payload (Some (take payload_length content)) setting) (vouching under.vouch) bytes =
       said_with_keys under.keys keys _ read in
       says_equal result _ _ (stated ∙ sym (from ∙ by_keys)) said
 
-  by_length : (keys : List KeyValue) (short : Bool) → nat_lt (length content) job.length ≡ short → (result : Result Reply Fault) → under.keys ≡ Ok keys →
-      IfOk result (AnsweredOf job.question under.room.header under.room.nesting (setting_under under keys) (vouching under.vouch) job.length bytes (counted job.length (Some content)) (counted left after) ended) →
-      (ended ≡ true → left ≡ 0) → IfOk result (Says (answered_from job content bytes))
+  by_length : (keys : List KeyValue) (short : Bool) → nat_lt (length content) payload_length ≡ short → (result : Result Reply Fault) → under.keys ≡ Ok keys →
+      IfOk result (AnsweredOf question under.room.header under.room.nesting (setting_under under keys) (vouching under.vouch) payload_length bytes (counted payload_length (Some content)) (counted left after) ended) →
+      (ended ≡ true → left ≡ 0) → IfOk result (Says (answered_from question under payload_length content bytes))
   by_length keys true e (Err fault) read of ends = tt
   by_length keys true e (Ok said) read of ends = short_said keys said read e of ends
   by_length keys false e result read of ends = whole_said keys result read e of
 
-  pub says_from_reader : (come : Option (List ℕ)) (result : Result Reply Fault) → come ≡ counted job.length (Some content) → FailsForKeys under.keys result →
-      RepliesWith job.question under job.length (Some bytes) come (counted left after) ended result → (ended ≡ true → left ≡ 0) → IfOk result (Says (answered_from job content bytes))
+  pub says_from_reader : (come : Option (List ℕ)) (result : Result Reply Fault) → come ≡ counted payload_length (Some content) → FailsForKeys under.keys result →
+      RepliesWith question under payload_length (Some bytes) come (counted left after) ended result → (ended ≡ true → left ≡ 0) → IfOk result (Says (answered_from question under payload_length content bytes))
   says_from_reader come result told fails replies ends = unless_refused _ under.keys result fails (λ keys read.
-      by_length keys (nat_lt (length content) job.length) refl result read
-      (subst (λ (t : Option (List ℕ)). IfOk result (AnsweredOf job.question under.room.header under.room.nesting (setting_under under keys) (vouching under.vouch) job.length bytes t (counted left after) ended)) told (replies bytes keys refl read))
+      by_length keys (nat_lt (length content) payload_length) refl result read
+      (subst (λ (t : Option (List ℕ)). IfOk result (AnsweredOf question under.room.header under.room.nesting (setting_under under keys) (vouching under.vouch) payload_length bytes t (counted left after) ended)) told (replies bytes keys refl read))
       ends)

@@ -2,6 +2,7 @@ pub mod Admissions
 pub mod AllowedKeys
 pub mod Asked
 pub mod AskedKeys
+pub mod AskedMaking
 pub mod AskedSequences
 pub mod ChecksAsked
 pub mod CommandLines
@@ -12,6 +13,7 @@ pub mod KeptPayloads
 pub mod KeptRequests
 pub mod KeyFiles
 pub mod Listings
+pub mod MakeStops
 pub mod Makings
 pub mod MessageReplies
 pub mod NextTokens

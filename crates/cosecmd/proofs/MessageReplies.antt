@@ -19,8 +19,8 @@ use Rattle.cose_msg.specs.Shown.{SignInput, sign_input_in, signed_with}
 use Rattle.cose_msg.specs.Unrefused.{BeginsWithMessage, IsUnrefused, UnrefusedIsMessage}
 use Rattle.cose_msg.specs.Reader.{Counts}
 use Rattle.cosecmd.proofs.Trailing.{all_taken, kept_at_end, left_of_input, refused_past, trails}
-use Rattle.cosecmd.specs.declared.job.Question.{Question}
-use Rattle.cosecmd.specs.declared.job.Question.TheVariants as questions
+use Rattle.cosecmd.specs.declared.request.Question.{Question}
+use Rattle.cosecmd.specs.declared.request.Question.TheVariants as questions
 use Rattle.cosecmd.specs.declared.reply.Reply.{Reply}
 use Rattle.cosecmd.specs.Printed.{Output, Says, answered_in, digested, digested_as, digested_before, digested_in, followed_by, input_answer, output_of, said_of, signature_asked, trailed, trailing_refusal, vouched}
 use Rattle.cosecmd.specs.Stated.{payload_wanted_of}

@@ -17,7 +17,7 @@ use Rattle.cose_msg.specs.Reading.{Reading}
 use Rattle.cose_msg.specs.Rules.{Rules}
 use Rattle.cose_msg.specs.Run.{inspection}
 use Rattle.cose_msg.specs.Shown.{protected_of, unprotected_of}
-use Rattle.cosecmd.specs.declared.job.Details.{Details}
+use Rattle.cosecmd.specs.declared.request.Details.{Details}
 use Rattle.cosecmd.specs.declared.reply.Reply.{Reply}
 use Rattle.cosecmd.specs.Inspection.{IsInspection}
 use Rattle.cosecmd.specs.Printed.{Output, Says, trailing_refusal, bucket_lines, pair_line, show_setting, shown_as, shown_in, shown_of, trailed}

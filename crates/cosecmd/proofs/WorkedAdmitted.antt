@@ -32,14 +32,11 @@ use Rattle.cose_cwt.specs.Admission.{admitted, admitted_claims}
 use Rattle.cose_cwt.specs.Claims.{claims_of, texts_from}
 use Rattle.cose_cwt.specs.Claims.Form.{claims_table}
 use Rattle.cose_cwt.specs.Confirmation.{confirmation_of, members_table}
-use Rattle.cose_cwt.specs.declared.requirements.Requirements.{Requirements}
 use Rattle.cose_cwt.specs.Requirements.{RequirementsValue, unmet}
 use Rattle.cose_cwt.specs.Token.{of_claims}
-use Rattle.cosecmd.specs.declared.job.Job.{Job}
-use Rattle.cosecmd.specs.declared.job.Job.TheVariants.{Cwt}
 use Rattle.cosecmd.specs.declared.reply.Status.TheVariants as statuses
 use Rattle.cosecmd.specs.Admitted.{if_admitted, program_policy, token_told}
-use Rattle.cosecmd.specs.Printed.{Output, outcome_said, printed}
+use Rattle.cosecmd.specs.Printed.{Output, admitted_under, outcome_said}
 use Rattle.cosecmd.specs.Requirements.{required_at}
 use Rattle.cosecmd.specs.Vouch.{vouching}
 use Rattle.cosecmd.proofs.WorkedPrinted.{hex, any, checks_for, line, Prints, plain, jefe, point}
@@ -150,15 +147,9 @@ unfolding said
 confirmed_sign = refl
 
 -- To admit a token of either kind under a key set, at a current time, whatever its audience.
-abbrev pub no_requirements : ℕ → Requirements
-no_requirements now = record { now = pos now; leeway = 0; present = record { ref_ptr = (0, 0); now = [] }; iss = None; sub = None; aud = None; lifetime = None; age = None; issued = false }
-
-abbrev admitting : List ℕ → ℕ → Job
-admitting keys now = Cwt (record { checks = checks_for keys [] wants.Tagged None; now = pos now; leeway = 0; aud = None; requirements = no_requirements now; readable = false })
-
 unfoldable prints : List ℕ → ℕ → List ℕ → Output
-unfolding printed unmet admitted claims_of claims_table members_table confirmation_of texts_from keys_of key_of key_table material_of message with_head with_string with_item bucket_of bucket_table check_pairs pair_faults chosen children_of items_from look head_of_item bare_head read head depth_of is_utf8 chars lib.Utf8.encode digits encode_with
-prints keys now input = printed (admitting keys now) input
+unfolding unmet admitted claims_of claims_table members_table confirmation_of texts_from keys_of key_of key_table material_of message with_head with_string with_item bucket_of bucket_table check_pairs pair_faults chosen children_of items_from look head_of_item bare_head read head depth_of is_utf8 chars lib.Utf8.encode digits encode_with
+prints keys now input = admitted_under (checks_for keys [] wants.Tagged None) (program_policy (pos now) 0 None) (nothing now 0) false input
 
 refused_keys : (now : ℕ) (input : List ℕ) → Prints (λ keys. prints keys now input) (
     ("", line "fault keys PastRoom at 0" statuses.Fault) ∷

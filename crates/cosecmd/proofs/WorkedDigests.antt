@@ -24,20 +24,19 @@ use Rattle.cose_map.specs.KeySet.{keys_of}
 use Rattle.cose_map.specs.Map.Read.{check_pairs}
 use Rattle.cose_msg.specs.Message.{message, structure}
 use Rattle.cose_msg.specs.Reading.{with_head, with_string, with_item}
-use Rattle.cosecmd.specs.declared.job.Job.TheVariants.{Digest}
 use Rattle.cosecmd.specs.declared.reply.Status.TheVariants as statuses
-use Rattle.cosecmd.specs.Printed.{Output, printed, vouched}
+use Rattle.cosecmd.specs.Printed.{Output, digested_under, vouched}
 use Rattle.cosecmd.specs.Vouch.{word_for}
-use Rattle.cosecmd.proofs.WorkedPrinted.{Prints, any, checks_for, hex, line, plain, point, word}
+use Rattle.cosecmd.proofs.WorkedPrinted.{Prints, any, checks_for, hex, line, plain, point}
 
 unfoldable digests : List ℕ → List ℕ → List ℕ → Output
-unfolding printed keys_of key_of key_table material_of message with_head with_string with_item bucket_of bucket_table check_pairs pair_faults chosen children_of items_from look head_of_item bare_head read head depth_of is_utf8 chars lib.Utf8.encode digits
-digests keys aad input = printed (Digest (checks_for keys aad wants.Sign1 None) None) input
+unfolding keys_of key_of key_table material_of message with_head with_string with_item bucket_of bucket_table check_pairs pair_faults chosen children_of items_from look head_of_item bare_head read head depth_of is_utf8 chars lib.Utf8.encode digits
+digests keys aad input = digested_under (checks_for keys aad wants.Sign1 None) None input
 
 -- With this payload next to the message.
 unfoldable digests_beside : List ℕ → List ℕ → List ℕ → Output
-unfolding printed keys_of key_of key_table material_of message with_head with_string with_item bucket_of bucket_table check_pairs pair_faults chosen children_of items_from look head_of_item bare_head read head depth_of is_utf8 chars lib.Utf8.encode digits
-digests_beside keys payload input = printed (Digest (checks_for keys [] wants.Sign1 None) (Some (word payload))) input
+unfolding keys_of key_of key_table material_of message with_head with_string with_item bucket_of bucket_table check_pairs pair_faults chosen children_of items_from look head_of_item bare_head read head depth_of is_utf8 chars lib.Utf8.encode digits
+digests_beside keys payload input = digested_under (checks_for keys [] wants.Sign1 None) (Some payload) input
 
 -- The digest of the structure, the signature, and the point; the message may come after its tag or without it.
 abbrev told : (ℕ → ℕ) → Output

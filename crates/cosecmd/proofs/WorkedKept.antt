@@ -18,12 +18,11 @@ use Rattle.cose_msg.specs.declared.context.Wanted.TheVariants as wants
 use Rattle.cose_msg.specs.Message.{message}
 use Rattle.cose_msg.specs.Reading.{with_head, with_string, with_item}
 use Rattle.cosecmd.specs.PayloadTo.{payload_under}
-use Rattle.cosecmd.specs.Under.{job_under}
 use Rattle.cosecmd.proofs.WorkedPrinted.{any, checks_for, hex, plain}
 
 unfoldable payload : List ℕ → List ℕ → List ℕ
 unfolding keys_of key_of key_table material_of message with_head with_string with_item bucket_of bucket_table check_pairs pair_faults chosen children_of items_from look head_of_item bare_head read head depth_of
-payload keys input = payload_under (job_under (checks_for keys [] wants.Tagged None)) input
+payload keys input = payload_under (checks_for keys [] wants.Tagged None) input
 
 -- What is there of it, up to its end, and then all of it. Nothing of a message that has none, nor under keys that are refused.
 parts : map (λ input. payload plain (hex input)) ("" ∷ "d18443a10105a0" ∷ "d18443a10105a042" ∷ "d18443a10105a04268" ∷ "d18443a10105a0426869" ∷ "d18443a10105a042686958200102" ∷ "d18443a10105a0f6" ∷ [])

@@ -19,25 +19,24 @@ use Rattle.cose_map.specs.Map.Read.{check_pairs}
 use Rattle.cose_msg.specs.declared.context.Wanted.TheVariants as wants
 use Rattle.cose_msg.specs.Message.{message}
 use Rattle.cose_msg.specs.Reading.{with_head, with_string, with_item}
-use Rattle.cosecmd.specs.declared.job.Job.{Job}
-use Rattle.cosecmd.specs.declared.job.Job.TheVariants.{Show, Verify, Cwt, Digest}
+use Rattle.cosecmd.specs.Admitted.{program_policy}
 use Rattle.cosecmd.specs.declared.limits.Limits.{Limits}
 use Rattle.cosecmd.specs.declared.limits.Limits.TheVariants.{Small, Large}
 use Rattle.cosecmd.specs.declared.reply.Status.TheVariants as statuses
-use Rattle.cosecmd.specs.Printed.{Output, printed}
-use Rattle.cosecmd.proofs.WorkedAdmitted.{no_requirements}
+use Rattle.cosecmd.specs.Printed.{Output, admitted_under, digested_under, shown, verified_under}
+use Rattle.cosecmd.proofs.WorkedAdmitted.{nothing}
 use Rattle.cosecmd.proofs.WorkedPrinted.{Prints, checks_within, hex, line, plain, plainly, point}
 
-unfoldable prints : Job → List ℕ → Output
-unfolding printed keys_of key_of key_table material_of message with_head with_string with_item bucket_of bucket_table check_pairs pair_faults chosen children_of items_from look head_of_item bare_head read head depth_of is_utf8 chars lib.Utf8.encode digits
-prints job input = printed job input
+unfoldable prints : (List ℕ → Output) → List ℕ → Output
+unfolding keys_of key_of key_table material_of message with_head with_string with_item bucket_of bucket_table check_pairs pair_faults chosen children_of items_from look head_of_item bare_head read head depth_of is_utf8 chars lib.Utf8.encode digits
+prints said input = said input
 
 -- To verify a message, and to admit a token at the time 0, within limits.
-abbrev verifying : Limits → List ℕ → Job
-verifying limits keys = Verify (checks_within limits keys [] wants.Tagged None) None
+abbrev verifying : Limits → List ℕ → List ℕ → Output
+verifying limits keys = verified_under (checks_within limits keys [] wants.Tagged None) None
 
-abbrev admitting : Limits → Job
-admitting limits = Cwt (record { checks = checks_within limits plain [] wants.Tagged None; now = pos 0; leeway = 0; aud = None; requirements = no_requirements 0; readable = false })
+abbrev admitting : Limits → List ℕ → Output
+admitting limits = admitted_under (checks_within limits plain [] wants.Tagged None) (program_policy (pos 0) 0 None) (nothing 0 0) false
 
 -- A header bucket has at most 65,535 bytes and nests at most 16 deep.
 at_the_large_limits : Prints (prints (verifying Large plain)) (
@@ -54,7 +53,7 @@ at_the_large_limits : Prints (prints (verifying Large plain)) (
 unfolding prints
 at_the_large_limits = refl
 
-shown_at_the_large_limits : Prints (prints (Show Large wants.Tagged plainly)) (
+shown_at_the_large_limits : Prints (prints (shown Large wants.Tagged plainly)) (
     ("d18459ffff", line "refused Truncated at 5" statuses.Refused) ∷
     ("d1845a00010000", line "refused PastRoom at 2" statuses.Refused) ∷
     ("d18452a10a81818181818181818181818181818100", line "refused Truncated at 21" statuses.Refused) ∷
@@ -63,13 +62,13 @@ unfolding prints
 shown_at_the_large_limits = refl
 
 -- A payload that is shown has at most as many bytes as the claims of a token.
-payload_at_the_large_limits : Prints (prints (Show Large wants.Tagged (record plainly { payload = true }))) (
+payload_at_the_large_limits : Prints (prints (shown Large wants.Tagged (record plainly { payload = true }))) (
     ("d18443a10105a059ffff", line "refused Truncated at 10" statuses.Refused) ∷
     ("d18443a10105a05a00010000", line "refused PayloadTooLong at 7" statuses.Refused) ∷ [])
 unfolding prints
 payload_at_the_large_limits = refl
 
-compared_at_the_large_limits : Prints (prints (Digest (checks_within Large point [] wants.Sign1 None) None)) (
+compared_at_the_large_limits : Prints (prints (digested_under (checks_within Large point [] wants.Sign1 None) None)) (
     ("d28459ffff", line "refused Truncated at 5" statuses.Refused) ∷
     ("d2845a00010000", line "refused PastRoom at 2" statuses.Refused) ∷
     ("d28452a10a81818181818181818181818181818100", line "refused Truncated at 21" statuses.Refused) ∷

@@ -14,19 +14,17 @@ use Rattle.cose_map.specs.Key.Form.{key_table}
 use Rattle.cose_map.specs.Key.Material.{material_of}
 use Rattle.cose_map.specs.Map.Read.{check_pairs}
 use Rattle.cose_msg.specs.Making.{made}
-use Rattle.cosecmd.specs.declared.job.Job.{Job}
-use Rattle.cosecmd.specs.declared.job.Job.TheVariants.{Make}
 use Rattle.cosecmd.specs.declared.reply.Status.TheVariants as statuses
-use Rattle.cosecmd.specs.Printed.{Output, printed}
-use Rattle.cosecmd.proofs.WorkedPrinted.{hex, line, word, Prints, plain, jefe}
+use Rattle.cosecmd.specs.Printed.{Output, made_under}
+use Rattle.cosecmd.proofs.WorkedPrinted.{hex, line, Prints, plain, jefe}
 
-unfoldable prints : Job → List ℕ → Output
-unfolding printed key_of key_table material_of check_pairs children_of items_from look head_of_item bare_head read head depth_of is_utf8 chars lib.Utf8.encode digits
-prints job input = printed job input
+unfoldable prints : (List ℕ → Output) → List ℕ → Output
+unfolding key_of key_table material_of check_pairs children_of items_from look head_of_item bare_head read head depth_of is_utf8 chars lib.Utf8.encode digits
+prints said input = said input
 
 -- To make a message under this key.
-abbrev making : Alg → List ℕ → ℕ → Option (List ℕ) → Job
-making alg key length kid = Make alg (word key) length (option_map word kid) (word [])
+abbrev making : Alg → List ℕ → ℕ → Option (List ℕ) → List ℕ → Output
+making alg key length kid = made_under (key_of (record { bytes = key; place = 0 })) alg length kid []
 
 -- The message that is made, whose bytes are in the examples of cose_msg.
 abbrev made_of : Alg → Option (List ℕ) → List ℕ → Output

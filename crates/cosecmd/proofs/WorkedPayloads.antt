@@ -26,20 +26,15 @@ use Rattle.cose_msg.specs.declared.verdict.Verdict.TheVariants.{Authentic}
 use Rattle.cose_msg.specs.Answer.{decided, refused}
 use Rattle.cose_msg.specs.Message.{message, structure, verified}
 use Rattle.cose_msg.specs.Reading.{with_head, with_string, with_item}
-use Rattle.cosecmd.specs.declared.job.Job.{Job}
-use Rattle.cosecmd.specs.declared.job.Job.TheVariants.{Verify}
 use Rattle.cosecmd.specs.declared.reply.Status.TheVariants as statuses
-use Rattle.cosecmd.specs.Printed.{Output, output_of, printed, trailed}
+use Rattle.cosecmd.specs.Printed.{Output, output_of, trailed, verified_under}
 use Rattle.cosecmd.specs.Vouch.{vouching}
-use Rattle.cosecmd.proofs.WorkedPrinted.{Prints, any, checks_for, either, found, hex, is_mac_of, line, plain, point, word}
+use Rattle.cosecmd.proofs.WorkedPrinted.{Prints, any, checks_for, either, found, hex, is_mac_of, line, plain, point}
 
 -- To verify a message of either kind under a key set, with this payload next to it.
-abbrev verifying : List ℕ → List ℕ → Job
-verifying keys payload = Verify (checks_for keys [] wants.Tagged None) (Some (word payload))
-
 unfoldable prints : List ℕ → List ℕ → List ℕ → Output
-unfolding printed keys_of key_of key_table material_of message with_head with_string with_item bucket_of bucket_table check_pairs pair_faults chosen children_of items_from look head_of_item bare_head read head depth_of is_utf8 chars lib.Utf8.encode digits
-prints keys payload input = printed (verifying keys payload) input
+unfolding keys_of key_of key_table material_of message with_head with_string with_item bucket_of bucket_table check_pairs pair_faults chosen children_of items_from look head_of_item bare_head read head depth_of is_utf8 chars lib.Utf8.encode digits
+prints keys payload input = verified_under (checks_for keys [] wants.Tagged None) (Some payload) input
 
 -- A message that has its payload is refused, and one with nil wants its tag next.
 refused_messages : Prints (prints plain (hex "6869")) (

@@ -2,7 +2,6 @@
 -- defined.
 use Rattle.std.specs.Prelude.{◌≡◌, ℕ, zero, suc, ◌+◌, ◌-◌, ◌*◌, Bool, true, false, not, ◌==◌, nat_lt, if◌then◌else◌, List, [], ◌∷◌, ◌++◌, map, filter, replicate, codes, Option, Some, None, option_map, refl}
 use Prim.Native.String.{String}
-use Rattle.std.specs.Borrow.{Bor}
 use Rattle.std.specs.Fmt.{digits}
 use Rattle.std.specs.Str.{bytes_eq, is_utf8, chars}
 use Rattle.cose_head.specs.Head.{bare_head, shortest_head}
@@ -32,15 +31,15 @@ use Rattle.cose_msg.specs.declared.verdict.Verdict.TheVariants.{Authentic}
 use Rattle.cose_msg.specs.Answer.{Chosen, decided, refused}
 use Rattle.cose_msg.specs.Message.{message, structure, verified}
 use Rattle.cose_msg.specs.Reading.{with_head, with_string, with_item}
-use Rattle.cosecmd.specs.declared.job.Checks.{Checks}
-use Rattle.cosecmd.specs.declared.job.Details.{Details}
-use Rattle.cosecmd.specs.declared.job.Job.{Job}
-use Rattle.cosecmd.specs.declared.job.Job.TheVariants.{Verify}
+use Rattle.cosecmd.specs.declared.request.Details.{Details}
+use Rattle.cosecmd.specs.Allowed.{unrestricted}
+use Rattle.cosecmd.specs.Limits.{room_of}
+use Rattle.cosecmd.specs.Under.{Under, program_keys}
 use Rattle.cosecmd.specs.declared.limits.Limits.{Limits}
 use Rattle.cosecmd.specs.declared.limits.Limits.TheVariants.{Small}
 use Rattle.cosecmd.specs.declared.reply.Status.{Status}
 use Rattle.cosecmd.specs.declared.reply.Status.TheVariants as statuses
-use Rattle.cosecmd.specs.Printed.{Output, code_of, output_of, printed, trailed}
+use Rattle.cosecmd.specs.Printed.{Output, code_of, output_of, trailed, verified_under}
 use Rattle.cosecmd.specs.Vouch.{vouching, word_for}
 
 -- Bytes in hexadecimal. Spaces are skipped.
@@ -72,23 +71,16 @@ line text status = record { text = codes text ++ codes "\n"; status = status }
 abbrev pub Prints : (List ℕ → Output) → List (String × Output) → Type 0
 Prints f rows = map (λ row. f (hex row.0)) rows ≡ map (λ row. row.1) rows
 
--- To verify a message of either kind under a key set, with the argument of `--vouch`, where there is one. Where these
--- bytes are in memory doesn't matter.
-abbrev pub word : List ℕ → Bor (List ℕ)
-word bytes = record { ref_ptr = (0, 0); now = bytes }
+-- To verify a message of either kind under a key set, with the argument of `--vouch`, where there is one.
+abbrev pub checks_within : Limits → List ℕ → List ℕ → Wanted → Option (List ℕ) → Under
+checks_within limits keys aad wanted vouch = record { room = room_of limits; keys = program_keys (room_of limits) unrestricted keys; aad = aad; wanted = wanted; vouch = vouch }
 
-abbrev pub checks_within : Limits → List ℕ → List ℕ → Wanted → Option (List ℕ) → Checks
-checks_within limits keys aad wanted vouch = record { keys = word keys; restrictions = record { algorithms = None; least_secret = 0 }; aad = word aad; wanted = wanted; vouch = option_map word vouch; limits = limits }
-
-abbrev pub checks_for : List ℕ → List ℕ → Wanted → Option (List ℕ) → Checks
+abbrev pub checks_for : List ℕ → List ℕ → Wanted → Option (List ℕ) → Under
 checks_for = checks_within Small
 
-abbrev verifying : List ℕ → Option (List ℕ) → Job
-verifying keys vouch = Verify (checks_for keys [] wants.Tagged vouch) None
-
 unfoldable prints : List ℕ → Option (List ℕ) → List ℕ → Output
-unfolding printed keys_of key_of key_table material_of message with_head with_string with_item bucket_of bucket_table check_pairs pair_faults chosen children_of items_from look head_of_item bare_head read head depth_of is_utf8 chars lib.Utf8.encode digits
-prints keys vouch input = printed (verifying keys vouch) input
+unfolding keys_of key_of key_table material_of message with_head with_string with_item bucket_of bucket_table check_pairs pair_faults chosen children_of items_from look head_of_item bare_head read head depth_of is_utf8 chars lib.Utf8.encode digits
+prints keys vouch input = verified_under (checks_for keys [] wants.Tagged vouch) None input
 
 -- The bytes of 'Jefe', and the key set of that key alone.
 abbrev pub jefe : List ℕ

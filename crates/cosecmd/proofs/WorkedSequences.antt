@@ -27,14 +27,13 @@ use Rattle.cose_msg.specs.Reading.{cut, settled, with_head, with_string, with_it
 use Rattle.cosecmd.specs.declared.reply.Status.TheVariants as statuses
 use Rattle.cosecmd.specs.Printed.{Output, output_of}
 use Rattle.cosecmd.specs.Sequence.{Reads, front_size, messages_said, nothing_said, sequence_said, verified_sequence}
-use Rattle.cosecmd.specs.Under.{job_under}
 use Rattle.cosecmd.proofs.WorkedPrinted.{Prints, checks_for, line, plain}
 
 -- ---- under the key set of one key
 
 sequence : List ℕ → Output
 unfolding front_size messages_said keys_of key_of key_table material_of message with_head with_string with_item bucket_of bucket_table check_pairs pair_faults chosen children_of items_from look head_of_item bare_head read head depth_of is_utf8 chars lib.Utf8.encode digits
-sequence input = verified_sequence (job_under (checks_for plain [] wants.Tagged None)) input
+sequence input = verified_sequence (checks_for plain [] wants.Tagged None) input
 
 -- A message that is refused before its end is the last, whatever follows it. None is a sequence.
 refused_first : Prints sequence (

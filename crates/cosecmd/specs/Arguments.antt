@@ -1,4 +1,4 @@
--- What is printed for the arguments of a command, and how it ends: the output of the job that these arguments ask for.
+-- What is printed for the arguments of a command, and how it ends: the output for what these arguments ask for.
 use Rattle.std.specs.Prelude.{ℕ, Bool, true, false, List, Option, Some, None, option_map}
 use Rattle.cose_cwt.specs.Claims.Audience.{text_value}
 use Rattle.cose_map.specs.Key.{key_of}
@@ -7,7 +7,7 @@ use Rattle.cosecmd.specs.Payload.{detached_in}
 use Rattle.cosecmd.specs.Printed.{Admits, Output, admitted_under, answered_under, keys_said, made_under, shown, verified_under}
 use Rattle.cosecmd.specs.Requirements.{requirements_for}
 use Rattle.cosecmd.specs.Sequence.{admitted_sequence, verified_sequence}
-use Rattle.cosecmd.specs.Under.{owned_under}
+use Rattle.cosecmd.specs.Under.{under_of}
 use Rattle.cosecmd.specs.declared.request.Cwt.{Cwt}
 use Rattle.cosecmd.specs.declared.request.Make.{Make}
 use Rattle.cosecmd.specs.declared.request.Request.{Request}
@@ -15,7 +15,7 @@ use Rattle.cosecmd.specs.declared.request.Request.TheVariants as asks
 
 abbrev pub admits_for_words : Admits → Cwt → List ℕ → Output
 admits_for_words admits words bytes =
-    admits (owned_under words.checks) (program_policy words.now words.leeway (option_map text_value words.aud)) (requirements_for words.now words.leeway words.required) words.readable bytes
+    admits (under_of words.checks) (program_policy words.now words.leeway (option_map text_value words.aud)) (requirements_for words.now words.leeway words.required) words.readable bytes
 
 abbrev pub admitted_for : Cwt → List ℕ → Output
 admitted_for words bytes = admits_for_words admitted_under words bytes
@@ -41,9 +41,9 @@ payload_for content (asks.Make words) = Some None
 -- With this detached payload, where there is one.
 abbrev pub asked_for : Request → Option (List ℕ) → List ℕ → Output
 asked_for (asks.Show limits wanted details) payload bytes = shown limits wanted details bytes
-asked_for (asks.Message question checks from) payload bytes = answered_under question (owned_under checks) payload bytes
-asked_for (asks.Keep checks name) payload bytes = verified_under (owned_under checks) payload bytes
-asked_for (asks.MessageSequence checks) payload bytes = verified_sequence (owned_under checks) bytes
+asked_for (asks.Message question checks from) payload bytes = answered_under question (under_of checks) payload bytes
+asked_for (asks.Keep checks name) payload bytes = verified_under (under_of checks) payload bytes
+asked_for (asks.MessageSequence checks) payload bytes = verified_sequence (under_of checks) bytes
 asked_for (asks.Cwt words) payload bytes = admitted_for words bytes
 asked_for (asks.TokenSequence words) payload bytes = admitted_each_for words bytes
 asked_for (asks.Keys words) payload bytes = keys_said words.message words.keys.items bytes

@@ -15,6 +15,7 @@ use Rattle.cosecmd.specs.Faults.{WritesLine}
 use Rattle.cosecmd.specs.Options.{Options, ◌>>=◌, algorithm_in, bytes_in, details_in, flag_in, integer_in, key_in, key_set_in, kind_in, limits_in, message_in, number_in, optional_bytes_in, payload_in, text_in}
 use Rattle.cosecmd.specs.Fields.{checks_in, digest_checks_in}
 use Rattle.cosecmd.specs.InputForm.{input_bytes}
+use Rattle.cosecmd.specs.MakeStops.{StopsMaking}
 use Rattle.cosecmd.specs.Printed.{Admits, EndsWith, Fails, Output, admitted_under, digested_under, keys_said, made_under, shown, verified_under}
 use Rattle.cosecmd.specs.Requirements.{requirements_in}
 use Rattle.cosecmd.specs.Sequence.{FailsInSequence, admitted_sequence, verified_sequence}
@@ -180,13 +181,15 @@ abbrev pub PrintsEach : (List ℕ → Option (List ℕ)) → ArgMatches → (Lis
 PrintsEach content matches said = (input : List ℕ) → matches_print content matches input ≡ Some (said input)
 
 -- What a run has written that ends with status 2, by what clap found: a fault's line, or a part of what is printed for it. A
--- sequence may have lines before that of a fault: those of a prefix of the input.
+-- sequence may have lines before that of a fault: those of a prefix of the input. `make` may have begun its message, which no line
+-- follows then.
 pub record FailsAsFound (content : List ℕ → Option (List ℕ)) (matches : ArgMatches) (bytes : List ℕ) (old new : Option (List ℕ)) : Type 0 where
   pub one : (said : Output) → matches_print content matches bytes ≡ Some said → subcommand_name_of matches ≢ Some (codes "make") → is_of_sequence matches ≡ false → Fails said old new
+  pub making : (said : List ℕ → Output) → PrintsEach content matches said → is_of_sequence matches ≡ false → Fails (said bytes) old new ⊎ StopsMaking said bytes old new
   pub sequence : (said : List ℕ → Output) → PrintsEach content matches said → subcommand_name_of matches ≢ Some (codes "make") → FailsInSequence said bytes old new
 
 -- What a run with these arguments has written that ends with status 2: the line of a fault, or a text of clap's, or what is
--- written by what clap found. Any of them may be cut short where the output fails. `make` may have begun its message.
+-- written by what clap found. Any of them may be cut short where the output fails.
 abbrev pub FailsOn : (List ℕ → Option (List ℕ)) → List Text → List ℕ → Option (List ℕ) → Option (List ℕ) → Type 0
 FailsOn content words bytes old new =
     ((fault : Fault) × WritesLine fault old new)

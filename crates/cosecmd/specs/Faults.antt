@@ -10,11 +10,9 @@ use Rattle.cose_msg.specs.declared.make.MakeFault.TheVariants as makes
 use Rattle.cose_msg.specs.Make.{make_fault}
 use Rattle.cose_msg.specs.Sink.{AppendsFront}
 use Rattle.cose_map.specs.Key.{key_of}
-use Rattle.cose_map.specs.Key.View.{contents}
 use Rattle.cosecmd.specs.declared.fault.Fault.{Fault}
 use Rattle.cosecmd.specs.declared.fault.Fault.TheVariants as faults
-use Rattle.cosecmd.specs.declared.job.Job.{Job}
-use Rattle.cosecmd.specs.declared.job.Job.TheVariants.{Show, Verify, Cwt, Digest, Keys, KeysFor, Make}
+use Rattle.cosecmd.specs.declared.request.Make.{Make}
 
 -- Whether the fault says that the input failed.
 abbrev pub is_of_input : Fault → Bool
@@ -60,16 +58,10 @@ abbrev pub fault_of_making : Read KeyValue → Alg → Option (List ℕ) → Lis
 fault_of_making (Ok key) alg kid aad payload_length = fault_of_arguments (make_fault alg key kid aad payload_length)
 fault_of_making (Err refusal) alg kid aad payload_length = Some (faults.Key refusal)
 
--- The fault of the key or of the other arguments of a job that makes a message.
-abbrev pub making_fault : Job → Option Fault
-making_fault (Make alg key payload_length kid aad) =
-    fault_of_making (key_of (record { bytes = key.now; place = 0 })) alg (option_map contents kid) aad.now payload_length
-making_fault (Show limits wanted details) = None
-making_fault (Verify checks payload) = None
-making_fault (Cwt job) = None
-making_fault (Digest checks payload) = None
-making_fault (Keys keys) = None
-making_fault (KeysFor keys wanted) = None
+-- The fault of the key or of the other arguments of `make`.
+abbrev pub making_fault : Make → Option Fault
+making_fault words =
+    fault_of_making (key_of (record { bytes = words.key.items; place = 0 })) words.alg (option_map (λ word. word.items) words.kid) words.aad.items words.length
 
 abbrev pub fault_text : Fault → List ℕ
 fault_text faults.Memory = codes "fault memory"

@@ -8,11 +8,11 @@ use Rattle.cosecmd.specs.Allowed.{restrictions_in}
 use Rattle.cosecmd.specs.Limits.{room_of}
 use Rattle.cosecmd.specs.Printed.{ItemsPrint, keys_print}
 use Rattle.cosecmd.specs.Requirements.{RequiredFields}
-use Rattle.cosecmd.specs.Under.{Under, owned_under, program_keys}
+use Rattle.cosecmd.specs.Under.{Under, under_of, program_keys}
 use Rattle.cosecmd.specs.declared.request.Cwt.{Cwt}
 use Rattle.cosecmd.specs.declared.request.Keys.{Keys}
 use Rattle.cosecmd.specs.declared.request.Make.{Make}
-use Rattle.cosecmd.specs.declared.request.OwnedChecks.{OwnedChecks}
+use Rattle.cosecmd.specs.declared.request.Checks.{Checks}
 
 -- The keys of these bytes are those of the argument, or of the file that is named, where its bytes are known.
 abbrev pub HasKeysOf : (List ℕ → Option (List ℕ)) → Options → List ℕ → Type 0
@@ -45,8 +45,8 @@ digest_checks_in content options = do
   Some (record { room = room_of (limits_in options); keys = program_keys (room_of (limits_in options)) restrictions keys; aad = aad; wanted = wants.Sign1; vouch = None })
 
 -- The checks are what the options say.
-abbrev pub AreChecks : Option Under → OwnedChecks → Type 0
-AreChecks said checks = (under : Under) → said ≡ Some under → owned_under checks ≡ under
+abbrev pub AreChecks : Option Under → Checks → Type 0
+AreChecks said checks = (under : Under) → said ≡ Some under → under_of checks ≡ under
 
 pub record CwtFields (content : List ℕ → Option (List ℕ)) (options : Options) (words : Cwt) : Type 0 where
   pub checks : AreChecks (checks_in content options) words.checks

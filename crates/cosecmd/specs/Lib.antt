@@ -9,9 +9,9 @@ pub mod HostFile
 pub mod Input
 pub mod InputForm
 pub mod Inspection
-pub mod Job
 pub mod KeysListed
 pub mod Limits
+pub mod MakeStops
 pub mod NewFile
 pub mod Options
 pub mod Part

@@ -11,7 +11,7 @@ use Rattle.cose_head.specs.declared.algorithm.Alg.{Alg}
 use Rattle.cose_head.specs.Algorithm.{algorithm_numbered}
 use Rattle.cose_msg.specs.declared.context.Wanted.{Wanted}
 use Rattle.cose_msg.specs.declared.context.Wanted.TheVariants as wants
-use Rattle.cosecmd.specs.declared.job.Details.{Details}
+use Rattle.cosecmd.specs.declared.request.Details.{Details}
 use Rattle.cosecmd.specs.declared.limits.Limits.{Limits}
 use Rattle.cosecmd.specs.declared.limits.Limits.TheVariants as limits
 

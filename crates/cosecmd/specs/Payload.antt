@@ -1,5 +1,5 @@
 -- Where the arguments say that the payload is.
-use Rattle.std.specs.Prelude.{◌≡◌, ℕ, List, Option, Some, None, option_map}
+use Rattle.std.specs.Prelude.{◌≡◌, ℕ, Bool, true, false, List, Option, Some, None, option_map}
 use Rattle.cosecmd.specs.Options.{part_of_file}
 use Rattle.cosecmd.specs.declared.request.Payload.{Payload}
 use Rattle.cosecmd.specs.declared.request.Payload.TheVariants.{InMessage, Bytes, File}
@@ -9,6 +9,11 @@ abbrev pub IsFile : List ℕ → Payload → Type 0
 IsFile name InMessage = ⊥
 IsFile name (Bytes payload) = ⊥
 IsFile name (File file stated) = file.now ≡ name
+
+abbrev pub is_in_file : Payload → Bool
+is_in_file InMessage = false
+is_in_file (Bytes payload) = false
+is_in_file (File name stated) = true
 
 -- The detached payload, where there is one, as far as it is known: that of a file where the content of the file is, and has as
 -- many bytes as are stated.

@@ -16,13 +16,13 @@ use Rattle.cosecmd.specs.NewFile.{Made, Stands, content_of}
 use Rattle.cosecmd.specs.Options.{Options, text_in}
 use Rattle.cosecmd.specs.Payload.{detached_in}
 use Rattle.cosecmd.specs.Printed.{setting_under, verified_under}
-use Rattle.cosecmd.specs.Under.{Under, owned_under}
+use Rattle.cosecmd.specs.Under.{Under, under_of}
 use Rattle.cosecmd.specs.Vouch.{vouching}
 use Rattle.cosecmd.specs.Arguments.{asked_for, is_sequence, makes, payload_for}
 use Rattle.cosecmd.specs.declared.fault.Fault.{Fault}
 use Rattle.cosecmd.specs.declared.fault.Fault.TheVariants as faults
 use Rattle.cosecmd.specs.declared.new_file.Standing.TheVariants as standings
-use Rattle.cosecmd.specs.declared.request.OwnedChecks.{OwnedChecks}
+use Rattle.cosecmd.specs.declared.request.Checks.{Checks}
 use Rattle.cosecmd.specs.declared.request.Payload.{Payload}
 use Rattle.cosecmd.specs.declared.request.Request.{Request}
 use Rattle.cosecmd.specs.declared.request.Request.TheVariants as asks
@@ -71,7 +71,7 @@ new_file_for (asks.Make words) = None
 
 -- What the message is verified under whose payload a request keeps.
 abbrev pub kept_under : Request → Option Under
-kept_under (asks.Keep checks name) = Some (owned_under checks)
+kept_under (asks.Keep checks name) = Some (under_of checks)
 kept_under (asks.Show limits wanted details) = None
 kept_under (asks.Message question checks payload) = None
 kept_under (asks.MessageSequence checks) = None
@@ -81,12 +81,12 @@ kept_under (asks.Keys words) = None
 kept_under (asks.Make words) = None
 
 -- A request to verify a message under these checks, with this payload.
-pub record AsksToVerify (checks : OwnedChecks) (payload : Payload) (request : Request) : Type 0 where
+pub record AsksToVerify (checks : Checks) (payload : Payload) (request : Request) : Type 0 where
   pub payload_is : (content : List ℕ → Option (List ℕ)) → payload_for content request ≡ detached_in content payload
-  pub asked : (detached : Option (List ℕ)) (bytes : List ℕ) → asked_for request detached bytes ≡ verified_under (owned_under checks) detached bytes
+  pub asked : (detached : Option (List ℕ)) (bytes : List ℕ) → asked_for request detached bytes ≡ verified_under (under_of checks) detached bytes
   pub makes_none : makes request ≡ false
   pub one : is_sequence request ≡ false
-  pub kept : (name : List ℕ) → new_file_for request ≡ Some name → kept_under request ≡ Some (owned_under checks)
+  pub kept : (name : List ℕ) → new_file_for request ≡ Some name → kept_under request ≡ Some (under_of checks)
 
 -- A request that keeps a payload verifies its message under what the options say, where each argument is in order and the bytes
 -- of a file that is named are known.

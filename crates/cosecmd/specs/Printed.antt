@@ -1,6 +1,6 @@
--- What the program prints for a job and an input, and how it ends.
-use Rattle.std.specs.Prelude.{◌≡◌, ◌≢◌, ◌⊎◌, ℕ, ◌<◌, ◌-◌, ◌^◌, Bool, true, false, ◌&&◌, List, [], ◌∷◌, ◌++◌, length, map, take, Option, Some, None, Result, Ok, Err, option_map, codes, string_bytes, nat_lt, if◌then◌else◌}
-use Rattle.std.specs.Borrow.{Bor}
+-- What the program prints for an input by what is asked of it, and how it ends. A text of status Fault is what the program's
+-- documents say; no clause requires a run that ends so to print all of it.
+use Rattle.std.specs.Prelude.{◌≡◌, ◌≢◌, ◌⊎◌, ℕ, ◌<◌, ◌-◌, ◌^◌, Bool, true, false, ◌&&◌, List, [], ◌∷◌, ◌++◌, length, map, take, Option, Some, None, Result, Ok, Err, codes, string_bytes, nat_lt, if◌then◌else◌}
 use Rattle.std.specs.List.{concat}
 use Rattle.std.specs.Fmt.{decimal, signed_decimal}
 use Rattle.std.specs.Io.KnownBytes.{Appends}
@@ -14,10 +14,8 @@ use Rattle.cose_head.specs.Refusal.{refusal_text}
 use Rattle.cose_head.specs.declared.algorithm.Alg.{Alg}
 use Rattle.cose_head.specs.Algorithm.{algorithm_number}
 use Rattle.cose_map.specs.Choice.{Question as KeyQuestion}
-use Rattle.cose_map.specs.Key.{key_of}
 use Rattle.cose_map.specs.Key.Value.{KeyValue}
 use Rattle.cose_map.specs.KeySet.{items_in, keys_of}
-use Rattle.cose_map.specs.Key.View.{contents}
 use Rattle.cose_map.specs.Map.Pairs.{Pair}
 use Rattle.cose_map.specs.Map.Read.{Read}
 use Rattle.cose_msg.specs.declared.context.Wanted.{Wanted}
@@ -34,28 +32,22 @@ use Rattle.cose_msg.specs.Reading.{Reading}
 use Rattle.cose_msg.specs.Shown.{SignInput, sign_input_in}
 use Rattle.cose_msg.specs.Writes.{front_of}
 use Rattle.cose_cwt.specs.Admission.{PolicyValue}
-use Rattle.cose_cwt.specs.Claims.Audience.{text_value}
 use Rattle.cose_cwt.specs.Requirements.{RequirementsValue}
-use Rattle.cose_cwt.specs.Requirements.View.{requirements_value}
-use Rattle.cosecmd.specs.Admitted.{Admission, input_token, outcome_status, outcome_text, program_policy}
+use Rattle.cosecmd.specs.Admitted.{Admission, input_token, outcome_status, outcome_text}
 use Rattle.cosecmd.specs.AskedKeys.{asked}
 use Rattle.cosecmd.specs.Faults.{WritesLine}
 use Rattle.cosecmd.specs.KeysListed.{set_status, set_text}
 use Rattle.cosecmd.specs.Limits.{room_of}
 use Rattle.cosecmd.specs.declared.fault.Fault.{Fault}
-use Rattle.cosecmd.specs.declared.job.Checks.{Checks}
-use Rattle.cosecmd.specs.declared.job.Details.{Details}
-use Rattle.cosecmd.specs.declared.job.Job.{Job}
-use Rattle.cosecmd.specs.declared.job.Job.TheVariants.{Show, Verify, Cwt, Digest, Keys, KeysFor, Make}
-use Rattle.cosecmd.specs.declared.job.Question.{Question}
-use Rattle.cosecmd.specs.declared.job.TokenJob.{TokenJob}
-use Rattle.cosecmd.specs.declared.job.Question.TheVariants as questions
+use Rattle.cosecmd.specs.declared.request.Details.{Details}
+use Rattle.cosecmd.specs.declared.request.Question.{Question}
+use Rattle.cosecmd.specs.declared.request.Question.TheVariants as questions
 use Rattle.cosecmd.specs.declared.limits.Limits.{Limits}
 use Rattle.cosecmd.specs.declared.reply.Reply.{Reply}
 use Rattle.cosecmd.specs.declared.reply.Status.{Status}
 use Rattle.cosecmd.specs.declared.reply.Status.TheVariants as statuses
 use Rattle.cosecmd.specs.Readable.{no_payload_shown, pair_notation, payload_shown}
-use Rattle.cosecmd.specs.Under.{Under, job_under}
+use Rattle.cosecmd.specs.Under.{Under}
 use Rattle.cosecmd.specs.Vouch.{vouch_word, vouching}
 use Rattle.hex.specs.Hex.{encode_lower}
 
@@ -161,10 +153,6 @@ abbrev pub verified_under : Under → Option (List ℕ) → List ℕ → Output
 verified_under under payload bytes =
     with_keys under.keys (λ keys. output_of (input_answer under.room.header under.room.nesting (with_payload payload (setting_under under keys)) (vouching under.vouch) bytes))
 
--- The same for the checks of a job, and the payload that it has, if any.
-abbrev pub verified_for : Checks → Option (Bor (List ℕ)) → List ℕ → Output
-verified_for checks payload bytes = verified_under (job_under checks) (option_map contents payload) bytes
-
 -- A token is verified as a message is, with a payload of at most this many bytes.
 abbrev pub token_setting : ℕ → List KeyValue → List ℕ → Wanted → Setting
 token_setting claims keys aad wanted = record (program_setting keys aad wanted) { payload_limit = claims }
@@ -185,10 +173,6 @@ admitted_under under policy requirements readable bytes =
 -- printed in quotes too. It is that of the one token that the input is, or of each of a sequence.
 abbrev pub Admits : Type 0
 Admits = Under → PolicyValue → RequirementsValue → Bool → List ℕ → Output
-
-abbrev pub admits_for_job : Admits → TokenJob → List ℕ → Output
-admits_for_job admits job bytes =
-    admits (job_under job.checks) (program_policy job.now job.leeway (option_map text_value job.aud)) (requirements_value job.requirements) job.readable bytes
 
 -- The shape of a message: its kind, and the numbers of bytes of its payload, of its tag or signature, and of the whole.
 abbrev pub shape_line : Kind → ℕ → ℕ → ℕ → List ℕ
@@ -285,10 +269,6 @@ digested_in header nesting setting bytes = digested_as setting.aad (input_compar
 abbrev pub digested_under : Under → Option (List ℕ) → List ℕ → Output
 digested_under under payload bytes = with_keys under.keys (λ keys. digested_in under.room.header under.room.nesting (with_payload payload (setting_under under keys)) bytes)
 
--- The same for the checks of a job, and the payload that it has, if any.
-abbrev pub digested_for : Checks → Option (Bor (List ℕ)) → List ℕ → Output
-digested_for checks payload bytes = digested_under (job_under checks) (option_map contents payload) bytes
-
 -- What is printed by what is asked of a message.
 abbrev pub by_question : Question → Output → Output → Output
 by_question questions.Verdict verdict digest = verdict
@@ -375,18 +355,6 @@ keys_listed_for wanted keys bytes = keys_print (items_listed_for (asked wanted b
 abbrev pub keys_said : Option Wanted → List ℕ → List ℕ → Output
 keys_said None keys bytes = keys_listed keys
 keys_said (Some wanted) keys bytes = keys_listed_for wanted keys bytes
-
--- What is printed for a job, where the input is these bytes. A text of status Fault is what the program's documents
--- say; no clause requires a run that ends so to print all of it.
-unfoldable pub printed : Job → List ℕ → Output
-printed (Show limits wanted details) bytes = shown limits wanted details bytes
-printed (Verify checks payload) bytes = verified_for checks payload bytes
-printed (Cwt job) bytes = admits_for_job admitted_under job bytes
-printed (Digest checks payload) bytes = digested_for checks payload bytes
-printed (Keys keys) bytes = keys_listed keys.now
-printed (KeysFor keys wanted) bytes = keys_listed_for wanted keys.now bytes
-printed (Make alg key payload_length kid aad) bytes =
-    made_under (key_of (record { bytes = key.now; place = 0 })) alg payload_length (option_map contents kid) aad.now bytes
 
 -- A reply with this output.
 pub record Says (output : Output) (reply : Reply) : Type 0 where

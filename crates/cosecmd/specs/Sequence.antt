@@ -13,10 +13,9 @@ use Rattle.cose_msg.specs.Reading.{Reading}
 use Rattle.cose_msg.specs.Sink.{AppendsFront}
 use Rattle.cosecmd.specs.Faults.{WritesLine, fault_text}
 use Rattle.cosecmd.specs.declared.fault.Fault.{Fault}
-use Rattle.cosecmd.specs.declared.job.TokenJob.{TokenJob}
 use Rattle.cosecmd.specs.declared.reply.Status.{Status}
 use Rattle.cosecmd.specs.declared.reply.Status.TheVariants as statuses
-use Rattle.cosecmd.specs.Printed.{Output, Prints, admits_for_job, admitted_under, setting_under, token_setting, verified_under, with_keys}
+use Rattle.cosecmd.specs.Printed.{Output, Prints, admitted_under, setting_under, token_setting, verified_under, with_keys}
 use Rattle.cosecmd.specs.Under.{Under}
 use Rattle.cosecmd.specs.Vouch.{vouching}
 
@@ -114,9 +113,6 @@ verified_sequence under bytes =
 abbrev pub admitted_sequence : Under → PolicyValue → RequirementsValue → Bool → List ℕ → Output
 admitted_sequence under policy requirements readable bytes =
     with_keys under.keys (λ keys. sequence_said (read_as under.room.header under.room.nesting (token_setting under.room.claims keys under.aad under.wanted) (vouching under.vouch)) (admitted_under under policy requirements readable) bytes)
-
-abbrev pub admitted_each : TokenJob → List ℕ → Output
-admitted_each job bytes = admits_for_job admitted_sequence job bytes
 
 -- What a run over a sequence has written that ends with status Fault: the line of a fault, perhaps after all that is printed for
 -- a prefix of the input; or a prefix of that, where the output fails.

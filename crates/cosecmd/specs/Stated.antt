@@ -4,12 +4,11 @@ use Rattle.std.specs.Io.KnownBytes.{Consumes, IsAtEnd}
 use Rattle.cose_map.specs.Key.Value.{KeyValue}
 use Rattle.cose_msg.specs.Message.{Decides, Setting, comparing, message}
 use Rattle.cose_msg.specs.Source.{detached}
-use Rattle.cosecmd.specs.declared.job.FileJob.{FileJob}
-use Rattle.cosecmd.specs.declared.job.Question.{Question}
+use Rattle.cosecmd.specs.declared.request.Question.{Question}
 use Rattle.cosecmd.specs.declared.reply.Reply.{Reply}
 use Rattle.cosecmd.specs.declared.reply.Status.TheVariants as statuses
 use Rattle.cosecmd.specs.Printed.{Output, Says, answered_in, answered_under, setting_under, with_keys}
-use Rattle.cosecmd.specs.Under.{Under, job_under}
+use Rattle.cosecmd.specs.Under.{Under}
 use Rattle.cosecmd.specs.Vouch.{vouching}
 
 -- The payload is detached: these bytes of it have come, and so many are stated.
@@ -38,11 +37,11 @@ answered_short question under stated content bytes =
     with_keys under.keys (λ keys. answered_of_short question under.room.header under.room.nesting (stating content stated (setting_under under keys)) (vouching under.vouch) bytes)
 
 -- The payload is the first bytes of the reader, as many as are stated.
-abbrev pub answered_from : FileJob → List ℕ → List ℕ → Output
-answered_from job content bytes =
-    if nat_lt (length content) job.length
-    then answered_short job.question (job_under job.checks) job.length content bytes
-    else answered_under job.question (job_under job.checks) (Some (take job.length content)) bytes
+abbrev pub answered_from : Question → Under → ℕ → List ℕ → List ℕ → Output
+answered_from question under stated content bytes =
+    if nat_lt (length content) stated
+    then answered_short question under stated content bytes
+    else answered_under question under (Some (take stated content)) bytes
 
 -- A reply to what is asked of the message of an input. These bytes came of what was to come of the payload, no more than are
 -- stated; where the message wants more of them, the intake of the payload has ended.

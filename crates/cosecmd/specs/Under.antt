@@ -1,17 +1,14 @@
 -- What a message is verified under, as the arguments of the command line say it.
 use Rattle.std.specs.Prelude.{ℕ, List, Option, option_map}
 use Rattle.cose_map.specs.Key.Value.{KeyValue}
-use Rattle.cose_map.specs.Key.View.{contents}
 use Rattle.cose_map.specs.KeySet.{keys_of}
 use Rattle.cose_map.specs.KeyTable.{table_of}
 use Rattle.cose_map.specs.Map.Read.{Read}
 use Rattle.cose_map.specs.Restrictions.{RestrictionsValue, allowed_in}
-use Rattle.cose_map.specs.Restrictions.View.{restrictions_value}
 use Rattle.cose_msg.specs.declared.context.Wanted.{Wanted}
 use Rattle.cosecmd.specs.Allowed.{allowed_value}
 use Rattle.cosecmd.specs.Limits.{Room, room_of}
-use Rattle.cosecmd.specs.declared.job.Checks.{Checks}
-use Rattle.cosecmd.specs.declared.request.OwnedChecks.{OwnedChecks}
+use Rattle.cosecmd.specs.declared.request.Checks.{Checks}
 
 -- The room that there is; the keys of a key set that may be used, or why it is refused; the externally supplied data; the kinds of messages that
 -- are wanted; the argument of `--vouch`, where there is one.
@@ -26,18 +23,8 @@ pub record Under : Type 0 where
 abbrev pub program_keys : Room → RestrictionsValue → List ℕ → Read (List KeyValue)
 program_keys room restrictions bytes = table_of room.keys (allowed_in restrictions (keys_of bytes))
 
--- As a job holds it, and as the arguments do.
-abbrev pub job_under : Checks → Under
-job_under checks = record {
-  room = room_of checks.limits;
-  keys = program_keys (room_of checks.limits) (restrictions_value checks.restrictions) checks.keys.now;
-  aad = checks.aad.now;
-  wanted = checks.wanted;
-  vouch = option_map contents checks.vouch;
-}
-
-abbrev pub owned_under : OwnedChecks → Under
-owned_under checks = record {
+abbrev pub under_of : Checks → Under
+under_of checks = record {
   room = room_of checks.limits;
   keys = program_keys (room_of checks.limits) (allowed_value checks.allowed) checks.keys.items;
   aad = checks.aad.items;

@@ -16,11 +16,10 @@ use crate::allowed::allowed_of;
 use crate::commands::line;
 use crate::fault::Fault;
 use crate::files::{NamedFiles, key_bytes, key_set_bytes};
-use crate::job::{Details, Question};
 use crate::limits::Limits;
 use crate::mistake::mistake;
 use crate::reply::{Reply, Status};
-use crate::request::{Cwt, Keys, Make, OwnedChecks, Payload, Request};
+use crate::request::{Checks, Cwt, Details, Keys, Make, Payload, Question, Request};
 use crate::requirements::required_of;
 use clap::ArgMatches;
 use clap::error::ErrorKind;
@@ -338,11 +337,7 @@ fn payload_of<'a>(alloc: Global, matches: &ArgMatches<'a>) -> Result<Payload<'a>
 }
 
 /// What the arguments of `verify` and `cwt` say that a message is verified under, in the order in which help lists them.
-fn checks_of<F: NamedFiles>(
-    alloc: Global,
-    files: &F,
-    matches: &ArgMatches,
-) -> Result<OwnedChecks, Fault>
+fn checks_of<F: NamedFiles>(alloc: Global, files: &F, matches: &ArgMatches) -> Result<Checks, Fault>
     ensures { IfOk result (AreChecks (checks_in (F.content files.now) (options_of matches.now))) }
 {
     let keys = key_set_of(alloc, files, matches)?;
@@ -351,7 +346,7 @@ fn checks_of<F: NamedFiles>(
     let wanted = kind_of(matches);
     let vouch = optional_bytes_of(alloc, matches, "vouch")?;
     let limits = limits_of(matches);
-    Ok(OwnedChecks {
+    Ok(Checks {
         keys,
         allowed,
         aad,
@@ -390,7 +385,7 @@ fn digest_checks_of<F: NamedFiles>(
     alloc: Global,
     files: &F,
     matches: &ArgMatches,
-) -> Result<OwnedChecks, Fault>
+) -> Result<Checks, Fault>
     ensures { IfOk result
         (AreChecks (digest_checks_in (F.content files.now) (options_of matches.now))) }
 {
@@ -398,7 +393,7 @@ fn digest_checks_of<F: NamedFiles>(
     let allowed = allowed_of(alloc, matches)?;
     let aad = external_of(alloc, matches)?;
     let limits = limits_of(matches);
-    Ok(OwnedChecks {
+    Ok(Checks {
         keys,
         allowed,
         aad,
@@ -446,11 +441,7 @@ fn make_of<F: NamedFiles>(alloc: Global, files: &F, matches: &ArgMatches) -> Res
 }
 
 /// To verify under these checks a message that has its payload, and to keep this in a new file of this name.
-fn keep_request<'a>(
-    checks: OwnedChecks,
-    payload: &Payload,
-    name: &'a str,
-) -> Result<Request<'a>, Fault>
+fn keep_request<'a>(checks: Checks, payload: &Payload, name: &'a str) -> Result<Request<'a>, Fault>
     ensures asks { IfOk result (AsksToVerify checks payload.entry.now) }
     ensures keeps { IfOk result (λ request. new_file_for request ≡ Some name.entry.now) }
 {
@@ -464,7 +455,7 @@ fn keep_request<'a>(
 /// To verify under these checks, with this payload. Where a new file is named, the payload of an authentic message is to be
 /// kept in it.
 fn verify_or_keep<'a>(
-    checks: OwnedChecks,
+    checks: Checks,
     payload: Payload<'a>,
     name: Option<&'a str>,
 ) -> Result<Request<'a>, Fault>
@@ -605,7 +596,7 @@ fn digest_request<'a, F: NamedFiles>(
     })
 }
 
-/// What the arguments, the first of which is the program's name, say to clap. Not inlined, so that a job has the stack that it takes.
+/// What the arguments, the first of which is the program's name, say to clap. Not inlined, so that an answer has the stack that it takes.
 #[inline(never)]
 pub fn parse<'a>(alloc: Global, words: &'a [&'a str]) -> Result<Parsed<'a>, Fault>
     ensures { IfOk result (IsReadFrom (map (λ word. word.now) words.entry.now)) }

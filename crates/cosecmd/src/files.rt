@@ -82,28 +82,6 @@ fn open_block_device(mut device: File) -> io::Result<(File, u64)> {
     Ok((device, length))
 }
 
-/// No files: none can be opened.
-#[derive(Clone, Copy)]
-pub struct NoFiles;
-
-impl NamedFiles for NoFiles {
-    type File = &'static [u8];
-
-    ghost content = { λ _ _. None };
-
-    fn open(&self, _name: &str) -> io::Result<&'static [u8]> {
-        Err(Error::from(ErrorKind::NotFound))
-    }
-
-    fn open_with_length(
-        &self,
-        _name: &str,
-        _stated: Option<u64>,
-    ) -> io::Result<(&'static [u8], u64)> {
-        Err(Error::from(ErrorKind::NotFound))
-    }
-}
-
 /// The first bytes of a file, at most 65,536.
 fn first_bytes<F: NamedFiles>(alloc: Global, files: &F, name: &str) -> io::Result<Vec<u8>>
     ensures { (bytes : List ℕ) → F.content files.now name.now ≡ Some bytes →

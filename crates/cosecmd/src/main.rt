@@ -12,7 +12,6 @@ mod answer;
 mod argument_advice;
 mod arguments;
 mod cause;
-mod checks;
 mod commands;
 mod fault;
 mod files;
@@ -20,7 +19,6 @@ mod hints;
 mod host_file;
 mod input;
 mod input_form;
-mod job;
 mod key_hints;
 mod limits;
 mod line;
@@ -65,7 +63,7 @@ fn owned_words(rt: &(impl Env + Alloc<A = Global>)) -> io::Result<Vec<String>> {
     Ok(words)
 }
 
-/// The arguments as `run` takes them.
+/// The arguments as `run_with_files` takes them.
 fn borrowed_words(alloc: Global, owned: &[String]) -> Result<Vec<&str>, AllocError> {
     let mut words = Vec::with_capacity(alloc, owned.len())?;
     for word in owned {

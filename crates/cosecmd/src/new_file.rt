@@ -3,10 +3,9 @@
 ghost use Rattle.std.specs.Prelude.{◌≡◌, ℕ, Bool, true, List, [], Option, Some, None, IfErr, IfOk};
 ghost use Rattle.cosecmd.specs.NewFile.{IsFirstFile, IsSettled, Made, looked, settled};
 
-use crate::files::NoFiles;
 use std::alloc::Global;
 use std::io;
-use std::io::{Error, ErrorKind, Write};
+use std::io::Write;
 
 /// Under which of its names a new file is, if it is.
 #[derive(Clone, Copy, Debug, PartialEq, Eq)]
@@ -62,46 +61,4 @@ pub trait NewFiles {
     fn discard(&mut self) -> io::Result<()>
         ensures gone { IfOk result (λ _. made self.new ≡ settled Gone None (made self.old)) }
         ensures stuck { IfErr result (λ _. made self.new ≡ settled Stuck None (made self.old)) };
-}
-
-/// A file that isn't there.
-#[derive(Clone, Copy)]
-pub struct NoFile;
-
-impl Write for NoFile {
-    fn write(&mut self, _bytes: &[u8]) -> io::Result<usize> {
-        Err(Error::from(ErrorKind::NotFound))
-    }
-
-    fn flush(&mut self) -> io::Result<()> {
-        Ok(())
-    }
-}
-
-/// No file can be made.
-impl NewFiles for NoFiles {
-    type New = NoFile;
-
-    ghost use Rattle.std.specs.Prelude.{false};
-
-    // Nothing has any name.
-    ghost made = { λ _. record { is_taken = Some false; file = None } };
-
-    ghost is_known = { false };
-
-    fn look(&mut self, _name: &str) -> io::Result<bool> {
-        Ok(false)
-    }
-
-    fn create(&mut self, _alloc: Global, _name: &str) -> io::Result<NoFile> {
-        Err(Error::from(ErrorKind::NotFound))
-    }
-
-    fn keep(&mut self, _file: &mut NoFile) -> io::Result<()> {
-        Err(Error::from(ErrorKind::NotFound))
-    }
-
-    fn discard(&mut self) -> io::Result<()> {
-        Ok(())
-    }
 }

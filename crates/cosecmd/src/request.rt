@@ -3,19 +3,38 @@
 ghost use Rattle.std.specs.Prelude.{◌≤◌, length as length_of};
 
 use crate::allowed::Allowed;
-use crate::job::{Details, Question};
 use crate::limits::Limits;
 use crate::requirements::Required;
 use cose_msg::{Alg, Wanted};
 
-/// What the arguments say that a message is verified under.
+/// What is printed of a message that is shown, in addition to its shape and the bytes of its headers.
+#[derive(Clone, Copy)]
+pub struct Details {
+    /// Whether each pair is printed in diagnostic notation too (RFC 8949 section 8).
+    pub diagnostic: bool,
+    /// Whether the headers are shown of a message too whose payload is detached (RFC 9052 section 2).
+    pub detached: bool,
+    /// Whether the payload is printed, which then has at most as many bytes as the claims of a token.
+    pub payload: bool,
+}
+
+/// What is asked of a message, whose payload may be elsewhere.
+#[derive(Clone, Copy)]
+pub enum Question {
+    /// Its verdict: the command `verify`.
+    Verdict,
+    /// What its signature has to be verified with: the command `digest`.
+    Digest,
+}
+
+/// What a message is verified under.
 #[derive(Drop)]
-pub struct OwnedChecks {
-    /// The bytes of the key set.
+pub struct Checks {
+    /// The bytes of the key set (RFC 9052 section 7).
     pub keys: Vec<u8>,
     /// Which of its keys may be used.
     pub allowed: Allowed,
-    /// The externally supplied data.
+    /// The externally supplied data (RFC 9052 section 4.3).
     pub aad: Vec<u8>,
     /// The kinds of messages that are wanted.
     pub wanted: Wanted,
@@ -26,33 +45,34 @@ pub struct OwnedChecks {
     ghost external: { length_of aad.items ≤ 65535 },
 }
 
-/// The arguments of `cwt`.
+/// What a token is admitted under, or each of a sequence, and how its claims are printed.
 #[derive(Drop)]
 pub struct Cwt<'w> {
     /// What the token's message is verified under.
-    pub checks: OwnedChecks,
+    pub checks: Checks,
     /// The current time, in seconds since 1970.
     pub now: i64,
-    /// By how many seconds clocks may differ.
+    /// By how many seconds the clocks of the issuer and of this machine may differ.
     pub leeway: u32,
-    /// The text of the audience, where there is one.
+    /// The text of the audience, where a token that names an audience has to be for it.
     pub aud: Option<&'w str>,
-    /// What is required of the claims.
+    /// What is required of the claims beyond their admission.
     pub required: Required<'w>,
     /// Whether texts are printed in quotes too, and dates as RFC 3339 has them.
     pub readable: bool,
 }
 
-/// The arguments of `keys`.
+/// The key set whose items are listed.
 #[derive(Drop)]
 pub struct Keys {
     /// The bytes of the key set.
     pub keys: Vec<u8>,
-    /// The kinds of messages that are wanted, where the keys are listed for a message.
+    /// The kinds of messages that are wanted, where the keys are listed for the message on the input, whose headers alone are read.
+    /// Otherwise nothing of the input is read.
     pub message: Option<Wanted>,
 }
 
-/// The arguments of `make`.
+/// The COSE_Mac0 that is made of the payload on the input.
 #[derive(Drop)]
 pub struct Make {
     /// The algorithm of the MAC.
@@ -101,19 +121,19 @@ pub enum Request<'w> {
         /// What is asked of it.
         question: Question,
         /// What it is verified under.
-        checks: OwnedChecks,
+        checks: Checks,
         /// The payload.
         payload: Payload<'w>,
     },
     /// To verify a message that has its payload, and to keep the payload of an authentic one.
     Keep {
         /// What it is verified under.
-        checks: OwnedChecks,
+        checks: Checks,
         /// The name of the new file.
         name: &'w str,
     },
     /// To verify each message of a sequence under these checks.
-    MessageSequence(OwnedChecks),
+    MessageSequence(Checks),
     /// To admit a token.
     Cwt(Cwt<'w>),
     /// To admit each token of a sequence.

@@ -1,4 +1,4 @@
-//! The lines of the job `cwt`: the claims of a token, where they are admitted.
+//! The lines of the command `cwt`: the claims of a token, where they are admitted.
 
 ghost use Rattle.std.specs.Prelude.{◌≡◌, ◌≢◌, ◌≤◌, ◌↔◌, ◌++◌, ◌||◌, ℕ, true, false, List, [], Some, None, Ok, Err, IfErr, IfOk, codes, is_some, length, map, option_map, string_bytes};
 ghost use Rattle.std.specs.List.{concat};
@@ -14,22 +14,25 @@ ghost use Rattle.cose_cwt.specs.Claims.View.{claims_value};
 ghost use Rattle.cose_cwt.specs.Confirmation.View.{cnf_value};
 ghost use Rattle.cose_cwt.specs.Requirements.View.{requirements_value};
 ghost use Rattle.cosecmd.specs.Admitted.{admission_seen, bytes_line, claims_lines, confirmation_lines, date_line, input_token, key_line, or_trailing, program_policy, refused_line, required_then, stopped_in, text_line, where_present};
-ghost use Rattle.cosecmd.specs.Faults.{fails_by_input};
+ghost use Rattle.cosecmd.specs.Arguments.{admitted_for};
+ghost use Rattle.cosecmd.specs.Faults.{FailsForKeys, fails_by_input};
 ghost use Rattle.cosecmd.specs.Limits.{AreSizesUnder, room_of};
 ghost use Rattle.cosecmd.specs.Printed.{Says, admitted_under, outcome_said, token_setting, trailing_refusal};
 ghost use Rattle.cosecmd.specs.Readable.{date_notation, text_notation};
-ghost use Rattle.cosecmd.specs.Under.{job_under};
+ghost use Rattle.cosecmd.specs.Replies.{RepliesTo};
+ghost use Rattle.cosecmd.specs.Under.{under_of};
 ghost use Rattle.cosecmd.specs.Vouch.{vouching};
 
 use crate::answer::unmet::unmet_reply;
 use crate::answer::verdict::{CHUNK, program_context, trailing_at};
 use crate::fault::Fault;
-use crate::job::Checks;
 use crate::limits::{
     LARGE_CLAIMS, LARGE_HEADER, LARGE_KEYS, LARGE_NESTING, Limits, SMALL_CLAIMS, SMALL_HEADER,
     SMALL_KEYS, SMALL_NESTING,
 };
 use crate::reply::{Reply, Status};
+use crate::request::{Checks, Cwt};
+use crate::requirements::requirements_of;
 use crate::vouch::Vouch;
 use cose_cwt::{Audience, Auds, Claims, Cnf, CwtStop, Policy, Requirements, TokenStop, verify_cwt};
 use cose_map::{Material, Y};
@@ -388,26 +391,22 @@ fn admitted_reply<const H: usize, const D: usize, const N: usize, const L: usize
     requires store_limit { L ≤ 65535 }
     requires sizes { AreSizesUnder checks.now.limits H D N }
     requires claims { (room_of checks.now.limits).claims ≡ L }
-    requires external { length checks.now.aad.now ≤ 65535 }
     ensures says { (bytes : List ℕ) → I.to_come intake.old ≡ Some bytes →
-        IfOk result (Says (admitted_under (job_under checks.now) (policy_value policy.entry.now)
+        IfOk result (Says (admitted_under (under_of checks.now) (policy_value policy.entry.now)
         (requirements_value requirements.entry.now) readable bytes)) }
     ensures keys { (refusal : Refusal)
-        → (job_under checks.now).keys ≡ Err refusal ↔ result ≡ Err (Fault.Keys refusal) }
+        → (under_of checks.now).keys ≡ Err refusal ↔ result ≡ Err (Fault.Keys refusal) }
     // Its fault is that the input failed exactly where the intake failed in this call.
     ensures input { I.has_failed intake.new ≡ (I.has_failed intake.old || fails_by_input result) }
 {
-    let keys = match KeyTable::<N>::read_restricted(checks.keys, &checks.restrictions) {
+    let keys = match checks.key_table::<N>() {
         Ok(keys) => keys,
         Err(refusal) => return Err(Fault::Keys(refusal)),
     };
-    let mut verifier = Verifier::<H, D, KeyTable<'_, N>>::new(token_context::<L, _>(
-        keys,
-        checks.aad,
-        checks.wanted,
-    ));
+    let context = checks.token_context::<L, _>(keys);
+    let mut verifier = Verifier::<H, D, KeyTable<'_, N>>::new(context);
     let mut store = Store::<L>::new();
-    let vouch = Vouch { word: checks.vouch };
+    let vouch = checks.vouch();
     let token = whole_token(
         &mut verifier,
         intake,
@@ -419,42 +418,25 @@ fn admitted_reply<const H: usize, const D: usize, const N: usize, const L: usize
     token_reply(alloc, token, readable)
 }
 
-/// The reply to the job `cwt`.
-pub fn cwt_reply<R: Read>(
-    alloc: Global,
-    checks: &Checks,
-    policy: &Policy,
-    requirements: &Requirements,
-    readable: bool,
-    input: &mut R,
-) -> Result<Reply, Fault>
-    requires external { length checks.now.aad.now ≤ 65535 }
-    ensures says { (bytes : List ℕ) → R.remaining input.old ≡ Some bytes →
-        IfOk result (Says (admitted_under (job_under checks.now) (policy_value policy.entry.now)
-        (requirements_value requirements.entry.now) readable bytes)) }
-    ensures keys { (refusal : Refusal) →
-        (job_under checks.now).keys ≡ Err refusal ↔ result ≡ Err (Fault.Keys refusal) }
+/// The reply to the one token that the input is.
+pub fn cwt_reply<R: Read>(alloc: Global, words: &Cwt, input: &mut R) -> Result<Reply, Fault>
+    ensures says { RepliesTo (R.remaining input.old) (admitted_for words.entry.now) result }
+    ensures keys { FailsForKeys (under_of words.entry.now.checks).keys result }
 {
-    let mut intake = ReadIntake::new(input);
+    let checks = &words.checks;
+    let policy = &policy_of(words.now, words.leeway, &words.aud);
+    let required = &requirements_of(&words.required, words.now, words.leeway);
+    let readable = words.readable;
+    let intake = &mut ReadIntake::new(input);
     match checks.limits {
         Limits::Small => {
             admitted_reply::<SMALL_HEADER, SMALL_NESTING, SMALL_KEYS, SMALL_CLAIMS, _>(
-                alloc,
-                checks,
-                policy,
-                requirements,
-                readable,
-                &mut intake,
+                alloc, checks, policy, required, readable, intake,
             )
         }
         Limits::Large => {
             admitted_reply::<LARGE_HEADER, LARGE_NESTING, LARGE_KEYS, LARGE_CLAIMS, _>(
-                alloc,
-                checks,
-                policy,
-                requirements,
-                readable,
-                &mut intake,
+                alloc, checks, policy, required, readable, intake,
             )
         }
     }

@@ -1,4 +1,4 @@
-//! The lines of the jobs that list keys: what each item of a key set is, and which of them are usable keys. For a message also
+//! The lines of the command that lists keys: what each item of a key set is, and which of them are usable keys. For a message also
 //! whether a usable key fits it. No byte of a secret.
 
 ghost use Rattle.std.specs.Prelude.{◌≡◌, ◌↔◌, ◌++◌, ℕ, List, ◌∷◌, Some, Err, None, true, IfErr, IfOk, filter, length, map, option_map, string_bytes};
@@ -13,13 +13,15 @@ ghost use Rattle.cose_map.specs.Map.View.{seen_by};
 ghost use Rattle.cosecmd.specs.Admitted.{where_present};
 ghost use Rattle.cosecmd.specs.AskedKeys.{question_at};
 ghost use Rattle.cosecmd.specs.KeysListed as spec;
-ghost use Rattle.cosecmd.specs.Printed.{Says, keys_listed, keys_listed_for};
+ghost use Rattle.cosecmd.specs.Printed.{Says, keys_listed, keys_listed_for, keys_said};
+ghost use Rattle.cosecmd.specs.Replies.{RepliesTo};
 
 mod asked;
 
 use crate::fault::Fault;
 use crate::limits::{SMALL_KEYS, SMALL_NESTING};
 use crate::reply::{Reply, Status};
+use crate::request::Keys;
 use asked::asked_reply;
 use cose_head::{ItemRef, Items, Refusal};
 use cose_map::{Key, KeySet, Label, Material, Mismatch, Ops, Query};
@@ -381,8 +383,8 @@ fn set_reply(
     Ok(Reply { status, text })
 }
 
-/// The reply to the job `keys`. It reads no input.
-pub fn keys_reply(alloc: Global, keys: &[u8]) -> Result<Reply, Fault>
+/// The reply that lists the items of a key set for no message.
+fn keys_reply(alloc: Global, keys: &[u8]) -> Result<Reply, Fault>
     ensures says { IfOk result (Says (keys_listed keys.now)) }
     ensures keys { (refusal : Refusal)
         → keys_of keys.now ≡ Err refusal ↔ result ≡ Err (Fault.Keys refusal) }
@@ -398,8 +400,8 @@ pub fn keys_reply(alloc: Global, keys: &[u8]) -> Result<Reply, Fault>
     }
 }
 
-/// The reply to the job that lists keys for a message. The key set is read before the input.
-pub fn keys_reply_for<R: Read>(
+/// The reply that lists them for the message on the input. The key set is read before the input.
+fn keys_reply_for<R: Read>(
     alloc: Global,
     keys: &[u8],
     wanted: Wanted,
@@ -418,5 +420,22 @@ pub fn keys_reply_for<R: Read>(
         Ok(item) => asked_reply(alloc, &item, set.count(), wanted, input),
         // It was read as a set.
         Err(refusal) => Err(Fault::Keys(refusal)),
+    }
+}
+
+/// The reply that lists the items of a key set, and says of each usable key whether it fits the message on the input, where that is
+/// asked for.
+pub fn listing_reply<R: Read>(alloc: Global, words: &Keys, input: &mut R) -> Result<Reply, Fault>
+    ensures says { RepliesTo (R.remaining input.old)
+        (keys_said words.now.message words.now.keys.items) result }
+    ensures keys { (refusal : Refusal)
+        → keys_of words.now.keys.items ≡ Err refusal ↔ result ≡ Err (Fault.Keys refusal) }
+    // To list a key set for no message it reads nothing.
+    ensures listing { words.now.message ≡ None → input.new ≡ input.old }
+{
+    let keys = words.keys.as_slice();
+    match words.message {
+        Some(wanted) => keys_reply_for(alloc, keys, wanted, input),
+        None => keys_reply(alloc, keys),
     }
 }

@@ -1,16 +1,22 @@
-//! The message of the job `make`, which is written as it is made.
+//! The message that the command `make` makes, which is written as it is made.
 
-ghost use Rattle.std.specs.Prelude.{◌≡◌, ◌≤◌, ℕ, List, Some, IfOk, length as length_of, option_map};
+ghost use Rattle.std.specs.Prelude.{◌≡◌, ◌≤◌, ◌⊎◌, ℕ, List, Some, IfOk, length as length_of, option_map};
 ghost use Rattle.cose_map.specs.Key.{key_of};
 ghost use Rattle.cose_map.specs.Key.View.{contents};
-ghost use Rattle.cosecmd.specs.Faults.{fault_in, fault_of_making};
-ghost use Rattle.cosecmd.specs.Printed.{Prints, made_under};
+ghost use Rattle.cosecmd.specs.Arguments.{made_for};
+ghost use Rattle.cosecmd.specs.Faults.{WritesLine, fault_in, fault_of_making, making_fault};
+ghost use Rattle.cosecmd.specs.MakeStops.{LeavesPrefix, StopsMaking};
+ghost use Rattle.cosecmd.specs.Printed.{EndsWith, Prints, made_under};
 
+use crate::answer::checks::slice_of;
 use crate::fault::Fault;
 use crate::input::Input;
+use crate::print::print_fault;
 use crate::reply::Status;
+use crate::request::Make;
 use crate::write_sink::WriteSink;
 use cose_msg::{Alg, Key, MakeFault, make_mac0};
+use std::alloc::Global;
 use std::io::{Read, Write};
 
 /// The most bytes of a payload that are taken at once.
@@ -20,9 +26,9 @@ const CHUNK: usize = 4_096;
 ///
 /// A fault is found before anything is read or written, and its line is still to be printed. Where the input or the
 /// output fails later, or the input is too short, the run ends with a fault, and no line follows what was written. Not inlined:
-/// no other job is to take the stack for its chunk.
+/// nothing else is to take the stack for its chunk.
 #[inline(never)]
-pub fn make_message<R: Read, W: Write>(
+fn make_message<R: Read, W: Write>(
     alg: Alg,
     key: &[u8],
     kid: Option<&[u8]>,
@@ -39,6 +45,12 @@ pub fn make_message<R: Read, W: Write>(
     ensures fault { fault_in result ≡
         fault_of_making (key_of (record { bytes = key.now; place = 0 })) alg
         (option_map contents kid.entry) aad.now length }
+    // Where it stops later, it has written a prefix of the message, and no line after it.
+    ensures stops { (bytes : List ℕ) → R.remaining input.old ≡ Some bytes →
+        IfOk result (λ status. status ≡ Status.Fault →
+        LeavesPrefix (made_under (key_of (record { bytes = key.now; place = 0 })) alg length
+        (option_map contents kid.entry) aad.now) bytes (W.contents output.old)
+        (W.contents output.new)) }
     // Before it nothing is read or written.
     ensures unread { (fault : Fault) → fault_in result ≡ Some fault → input.new ≡ input.old }
     ensures unwritten { (fault : Fault) → fault_in result ≡ Some fault
@@ -62,5 +74,34 @@ pub fn make_message<R: Read, W: Write>(
         Err(MakeFault::WrongKey) => Err(Fault::WrongKey),
         Err(MakeFault::TooLong) => Err(Fault::TooLong),
         Err(MakeFault::ShortPayload | MakeFault::Intake | MakeFault::Sink) => Ok(Status::Fault),
+    }
+}
+
+/// Makes a message of the payload on the input, and writes it, or the line of the fault of its arguments.
+pub fn answer_make<R: Read, W: Write>(
+    alloc: Global,
+    words: &Make,
+    input: &mut R,
+    output: &mut W,
+) -> u8
+    ensures status { result ≤ 2 }
+    ensures printed { (bytes : List ℕ) → R.remaining input.old ≡ Some bytes →
+        EndsWith (made_for words.now bytes) (W.contents output.old) (W.contents output.new) result }
+    // With status 2 it prints a fault's line alone, or a prefix of the message, which no line follows.
+    ensures stops { (bytes : List ℕ) → R.remaining input.old ≡ Some bytes → result ≡ 2 →
+        StopsMaking (made_for words.now) bytes (W.contents output.old) (W.contents output.new) }
+    // Where the key or another argument is at fault, it reads nothing, and prints the line of this fault, unless there is no memory
+    // for it.
+    ensures unread { (fault : Fault) → making_fault words.now ≡ Some fault → input.new ≡ input.old }
+    ensures line { (fault : Fault) → making_fault words.now ≡ Some fault → (result ≡ 2)
+        × (WritesLine fault (W.contents output.old) (W.contents output.new)
+        ⊎ WritesLine Fault.Memory (W.contents output.old) (W.contents output.new)) }
+{
+    let key = words.key.as_slice();
+    let kid = slice_of(&words.kid);
+    let aad = words.aad.as_slice();
+    match make_message(words.alg, key, kid, aad, words.length, input, output) {
+        Ok(status) => status.code(),
+        Err(fault) => print_fault(alloc, fault, output).code(),
     }
 }

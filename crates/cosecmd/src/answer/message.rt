@@ -1,27 +1,30 @@
 //! What is asked of a message: its verdict, or what its signature is verified with.
 
-ghost use Rattle.std.specs.Prelude.{◌≡◌, ◌≤◌, ◌||◌, ℕ, false, List, Some, None, IfErr, IfOk, codes, length, option_map};
-ghost use Rattle.cose_map.specs.Key.View.{contents};
+ghost use Rattle.std.specs.Prelude.{◌≡◌, ◌≤◌, ◌||◌, ℕ, false, List, Option, Some, None, Err, IfErr, IfOk, codes};
+ghost use Rattle.cose_head.specs.declared.refusal.Refusal.{Refusal};
 ghost use Rattle.cose_msg.specs.Detached.{EitherFails};
 ghost use Rattle.cose_msg.specs.Kept.{bytes_taken};
 ghost use Rattle.cose_msg.specs.Shown.{sign_input_of};
 ghost use Rattle.cosecmd.specs.Faults.{FailsForKeys, IsOfMemoryOrInput, NamesOption, fails_by_file, fails_by_input};
 ghost use Rattle.cosecmd.specs.Limits.{AreSizesUnder};
+ghost use Rattle.cosecmd.specs.Options.{part_of_file};
+ghost use Rattle.cosecmd.specs.Payload.{detached_in, is_in_file};
 ghost use Rattle.cosecmd.specs.PayloadFile.{counted};
 ghost use Rattle.cosecmd.specs.Printed.{Says, answered_under, digested_before, followed_by, said_of, signature_asked, vouched};
 ghost use Rattle.cosecmd.specs.Replies.{RepliesTo, RepliesToBoth};
 ghost use Rattle.cosecmd.specs.Stated.{RepliesWith, answered_from};
-ghost use Rattle.cosecmd.specs.Under.{job_under};
+ghost use Rattle.cosecmd.specs.Under.{under_of};
 
-use crate::answer::verdict::{CHUNK, program_context, reply_of, trailing_at, whole_verdict};
+use crate::answer::verdict::{CHUNK, reply_of, trailing_at, whole_verdict};
 use crate::fault::Fault;
-use crate::job::{Checks, FileJob, Question};
+use crate::files::NamedFiles;
 use crate::limits::{
     LARGE_HEADER, LARGE_KEYS, LARGE_NESTING, Limits, SMALL_HEADER, SMALL_KEYS, SMALL_NESTING,
 };
 use crate::payload_file::PayloadFile;
 use crate::reply::{Reply, Status};
-use crate::vouch::{Vouch, word_for};
+use crate::request::{Checks, Payload, Question};
+use crate::vouch::word_for;
 use cose_msg::laws::{
     deciding_goes_last, payload_stays, settled_stays, spelled_is_read, unrefused_is_message,
 };
@@ -113,10 +116,9 @@ fn attached_reply<const H: usize, const D: usize, const N: usize, I: Intake>(
     requires some_keys { 1 ≤ N }
     requires keys_limit { N ≤ 256 }
     requires sizes { AreSizesUnder checks.now.limits H D N }
-    requires external { length checks.now.aad.now ≤ 65535 }
     ensures says { RepliesTo (I.to_come intake.old)
-        (answered_under question (job_under checks.now) None) result }
-    ensures keys { FailsForKeys (job_under checks.now).keys result }
+        (answered_under question (under_of checks.now) None) result }
+    ensures keys { FailsForKeys (under_of checks.now).keys result }
     // Its fault is that the input failed exactly where the intake failed in this call.
     ensures input { I.has_failed intake.new ≡ (I.has_failed intake.old || fails_by_input result) }
 {
@@ -125,12 +127,12 @@ fn attached_reply<const H: usize, const D: usize, const N: usize, I: Intake>(
     deciding_goes_last();
     spelled_is_read();
     unrefused_is_message();
-    let keys = match KeyTable::<N>::read_restricted(checks.keys, &checks.restrictions) {
+    let keys = match checks.key_table::<N>() {
         Ok(keys) => keys,
         Err(refusal) => return Err(Fault::Keys(refusal)),
     };
-    let context = program_context(keys, checks.aad, checks.wanted);
-    let vouch = Vouch { word: checks.vouch };
+    let context = checks.context(keys);
+    let vouch = checks.vouch();
     let mut verifier = Verifier::<H, D, KeyTable<'_, N>>::new(context);
     match verify::<CHUNK, H, D, _, _, _, _>(&mut verifier, intake, &mut Nothing, &vouch) {
         Ok(verdict) => reply_to(alloc, question, verdict, &verifier, intake),
@@ -156,11 +158,10 @@ fn detached_reply<const H: usize, const D: usize, const N: usize, I: Intake, P: 
     requires some_keys { 1 ≤ N }
     requires keys_limit { N ≤ 256 }
     requires sizes { AreSizesUnder checks.now.limits H D N }
-    requires external { length checks.now.aad.now ≤ 65535 }
-    ensures says { RepliesWith question (job_under checks.now) payload_length
+    ensures says { RepliesWith question (under_of checks.now) payload_length
         (I.to_come intake.old) (P.to_come payload.old) (P.to_come payload.new)
         (P.ended payload.new) result }
-    ensures keys { FailsForKeys (job_under checks.now).keys result }
+    ensures keys { FailsForKeys (under_of checks.now).keys result }
     // One of the intakes has failed in this call, where the fault is of an input, and otherwise none.
     ensures failure { EitherFails (fails_by_input result)
         I.has_failed intake.old intake.new
@@ -172,12 +173,12 @@ fn detached_reply<const H: usize, const D: usize, const N: usize, I: Intake, P: 
     deciding_goes_last();
     spelled_is_read();
     unrefused_is_message();
-    let keys = match KeyTable::<N>::read_restricted(checks.keys, &checks.restrictions) {
+    let keys = match checks.key_table::<N>() {
         Ok(keys) => keys,
         Err(refusal) => return Err(Fault::Keys(refusal)),
     };
-    let context = program_context(keys, checks.aad, checks.wanted);
-    let vouch = Vouch { word: checks.vouch };
+    let context = checks.context(keys);
+    let vouch = checks.vouch();
     let mut verifier = Verifier::<H, D, KeyTable<'_, N>>::detached(context, payload_length);
     let verdict = verify_detached::<CHUNK, H, D, _, _, _, _, _>(
         &mut verifier,
@@ -202,11 +203,10 @@ fn reply_beside<I: Intake, P: Intake>(
     payload: &mut P,
     intake: &mut I,
 ) -> Result<Reply, Fault>
-    requires external { length checks.now.aad.now ≤ 65535 }
-    ensures says { RepliesWith question (job_under checks.now) payload_length
+    ensures says { RepliesWith question (under_of checks.now) payload_length
         (I.to_come intake.old) (P.to_come payload.old) (P.to_come payload.new)
         (P.ended payload.new) result }
-    ensures keys { FailsForKeys (job_under checks.now).keys result }
+    ensures keys { FailsForKeys (under_of checks.now).keys result }
     ensures failure { EitherFails (fails_by_input result)
         I.has_failed intake.old intake.new
         P.has_failed payload.old payload.new }
@@ -240,10 +240,9 @@ fn reply_with_bytes<I: Intake>(
     payload: &[u8],
     intake: &mut I,
 ) -> Result<Reply, Fault>
-    requires external { length checks.now.aad.now ≤ 65535 }
     ensures says { RepliesTo (I.to_come intake.old)
-        (answered_under question (job_under checks.now) (Some payload.now)) result }
-    ensures keys { FailsForKeys (job_under checks.now).keys result }
+        (answered_under question (under_of checks.now) (Some payload.now)) result }
+    ensures keys { FailsForKeys (under_of checks.now).keys result }
     // Its fault is that the input failed exactly where the intake failed in this call.
     ensures input { I.has_failed intake.new ≡ (I.has_failed intake.old || fails_by_input result) }
 {
@@ -262,53 +261,21 @@ fn reply_with_bytes<I: Intake>(
     )
 }
 
-/// The reply to what is asked of the message on the input, with a detached payload, where there is one.
-pub fn message_reply<R: Read>(
+/// The reply to the message of an intake whose payload comes from a file, so many of its first bytes.
+fn reply_with_file<I: Intake, R: Read>(
     alloc: Global,
     question: Question,
     checks: &Checks,
-    payload: Option<&[u8]>,
-    input: &mut R,
-) -> Result<Reply, Fault>
-    requires external { length checks.now.aad.now ≤ 65535 }
-    ensures says { RepliesTo (R.remaining input.old)
-        (answered_under question (job_under checks.now) (option_map contents payload.entry))
-        result }
-    ensures keys { FailsForKeys (job_under checks.now).keys result }
-{
-    let mut intake = ReadIntake::new(input);
-    if let Some(payload) = payload {
-        return reply_with_bytes(alloc, question, checks, payload, &mut intake);
-    }
-    match checks.limits {
-        Limits::Small => attached_reply::<SMALL_HEADER, SMALL_NESTING, SMALL_KEYS, _>(
-            alloc,
-            question,
-            checks,
-            &mut intake,
-        ),
-        Limits::Large => attached_reply::<LARGE_HEADER, LARGE_NESTING, LARGE_KEYS, _>(
-            alloc,
-            question,
-            checks,
-            &mut intake,
-        ),
-    }
-}
-
-/// The reply to the message of an intake whose payload comes from a file.
-fn reply_with_file<I: Intake, R: Read>(
-    alloc: Global,
-    job: &FileJob,
+    payload_length: u64,
     payload: &mut PayloadFile<R>,
     intake: &mut I,
 ) -> Result<Reply, Fault>
-    requires external { length job.now.checks.aad.now ≤ 65535 }
     requires sound { ⟦<PayloadFile<R> as Intake>⟧.has_failed payload.old ≡ false }
     ensures says { (bytes content : List ℕ) → I.to_come intake.old ≡ Some bytes →
-        ⟦<PayloadFile<R> as Intake>⟧.to_come payload.old ≡ counted job.now.length (Some content)
-        → IfOk result (Says (answered_from job.now content bytes)) }
-    ensures keys { FailsForKeys (job_under job.now.checks).keys result }
+        ⟦<PayloadFile<R> as Intake>⟧.to_come payload.old ≡ counted payload_length (Some content)
+        → IfOk result
+        (Says (answered_from question (under_of checks.now) payload_length content bytes)) }
+    ensures keys { FailsForKeys (under_of checks.now).keys result }
     // Its fault is that the file failed, or the input, exactly where it failed in this call.
     ensures file { ⟦<PayloadFile<R> as Intake>⟧.has_failed payload.new ≡ fails_by_file result }
     ensures option { IfErr result (NamesOption (codes "payload-file")) }
@@ -317,34 +284,98 @@ fn reply_with_file<I: Intake, R: Read>(
     // Laws of messages that the proof cites: what comes of a payload changes nothing where none of it is wanted.
     deciding_goes_last();
     payload_stays();
-    match reply_beside(
-        alloc,
-        job.question,
-        &job.checks,
-        job.length,
-        payload,
-        intake,
-    ) {
+    match reply_beside(alloc, question, checks, payload_length, payload, intake) {
         Ok(reply) => Ok(reply),
         Err(_) if payload.has_failed() => Err(Fault::File("payload-file")),
         Err(fault) => Err(fault),
     }
 }
 
-/// The reply to what is asked of the message on the input, where the payload comes from a reader. Its bytes after the stated
-/// length are left unread.
-pub fn message_reply_with_file<P: Read, R: Read>(
+/// The reply to what is asked of a message, with a payload that comes from a reader, next to the message: its first bytes, as many
+/// as are stated.
+///
+/// Of `payload` it reads nothing before the message's nil, in pieces of at most 4,096 bytes, and nothing after the stated length.
+/// An error of `payload`, and an end before the stated length, is a fault, and no verdict.
+fn message_reply_with_file<P: Read, I: Intake>(
     alloc: Global,
-    job: &FileJob,
+    question: Question,
+    checks: &Checks,
+    payload_length: u64,
     payload: &mut P,
+    intake: &mut I,
+) -> Result<Reply, Fault>
+    ensures says { RepliesToBoth (I.to_come intake.old) (P.remaining payload.old)
+        (answered_from question (under_of checks.now) payload_length) result }
+    ensures keys { FailsForKeys (under_of checks.now).keys result }
+{
+    let mut file = PayloadFile::new(payload, payload_length);
+    reply_with_file(alloc, question, checks, payload_length, &mut file, intake)
+}
+
+/// The reply to what is asked of a message, whose payload is in the file of this name. Not inlined: nothing else is to take the
+/// stack that files take.
+#[inline(never)]
+fn reply_from_file<F: NamedFiles, I: Intake>(
+    alloc: Global,
+    files: &F,
+    question: Question,
+    checks: &Checks,
+    name: &str,
+    stated: Option<u64>,
+    intake: &mut I,
+) -> Result<Reply, Fault>
+    ensures says { (bytes payload : List ℕ) → I.to_come intake.old ≡ Some bytes →
+        part_of_file (F.content files.now) name.now stated ≡ Some payload →
+        IfOk result (Says (answered_under question (under_of checks.now) (Some payload) bytes)) }
+    // The fault is of the keys only where their set is refused.
+    ensures keys { (refusal : Refusal) → result ≡ Err (Fault.Keys refusal) →
+        (under_of checks.now).keys ≡ Err refusal }
+{
+    let (mut file, length) = match files.open_with_length(name, stated) {
+        Ok(opened) => opened,
+        Err(error) => return Err(Fault::file("payload-file", &error)),
+    };
+    message_reply_with_file(alloc, question, checks, length, &mut file, intake)
+}
+
+/// The reply to what is asked of the message on the input, whose payload is where the arguments say.
+pub fn message_reply<F: NamedFiles, R: Read>(
+    alloc: Global,
+    files: &F,
+    question: Question,
+    checks: &Checks,
+    payload: &Payload,
     input: &mut R,
 ) -> Result<Reply, Fault>
-    requires external { length job.now.checks.aad.now ≤ 65535 }
-    ensures says { RepliesToBoth (R.remaining input.old) (P.remaining payload.old)
-        (answered_from job.now) result }
-    ensures keys { FailsForKeys (job_under job.now.checks).keys result }
+    ensures says { (bytes : List ℕ) (detached : Option (List ℕ))
+        → R.remaining input.old ≡ Some bytes →
+        detached_in (F.content files.now) payload.entry.now ≡ Some detached →
+        IfOk result (Says (answered_under question (under_of checks.now) detached bytes)) }
+    // Where the payload is in no file, the fault is of the keys exactly where their set is refused.
+    ensures keys { is_in_file payload.entry.now ≡ false →
+        FailsForKeys (under_of checks.now).keys result }
 {
     let mut intake = ReadIntake::new(input);
-    let mut file = PayloadFile::new(payload, job.length);
-    reply_with_file(alloc, job, &mut file, &mut intake)
+    match payload {
+        Payload::InMessage => match checks.limits {
+            Limits::Small => attached_reply::<SMALL_HEADER, SMALL_NESTING, SMALL_KEYS, _>(
+                alloc,
+                question,
+                checks,
+                &mut intake,
+            ),
+            Limits::Large => attached_reply::<LARGE_HEADER, LARGE_NESTING, LARGE_KEYS, _>(
+                alloc,
+                question,
+                checks,
+                &mut intake,
+            ),
+        },
+        Payload::Bytes(bytes) => {
+            reply_with_bytes(alloc, question, checks, bytes.as_slice(), &mut intake)
+        }
+        Payload::File { name, length } => {
+            reply_from_file(alloc, files, question, checks, name, *length, &mut intake)
+        }
+    }
 }

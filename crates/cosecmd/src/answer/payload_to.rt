@@ -1,4 +1,4 @@
-//! The job `verify` with a new file that the payload of an authentic message is kept in.
+//! The command `verify` with a new file that the payload of an authentic message is kept in.
 
 ghost use Rattle.std.specs.Prelude.{◌≡◌, ◌≢◌, ◌≤◌, ◌⊎◌, ◌||◌, ℕ, true, List, [], Some, None, IfErr, IfOk, IsErr, length};
 ghost use Rattle.std.specs.Io.KnownBytes.{Appends};
@@ -8,20 +8,20 @@ ghost use Rattle.cosecmd.specs.Faults.{fails_by_file, fails_by_input};
 ghost use Rattle.cosecmd.specs.Limits.{AreSizesUnder};
 ghost use Rattle.cosecmd.specs.NewFile.{IsFirstFile, IsRemoved, IsSettled, MadeFile, Stands, content_of, settled};
 ghost use Rattle.cosecmd.specs.PayloadTo.{IsOfNewFile, PutsPayload, WritesFileFault, payload_in, payload_under};
-ghost use Rattle.cosecmd.specs.Printed.{Output, Says, verified_for};
+ghost use Rattle.cosecmd.specs.Printed.{Output, Says, verified_under};
 ghost use Rattle.cosecmd.specs.Replies.{FailsFor, IsVerdictOfInput, PrintsFor, RepliesTo, vouching_by};
-ghost use Rattle.cosecmd.specs.Under.{job_under};
+ghost use Rattle.cosecmd.specs.Under.{under_of};
 ghost use Rattle.cosecmd.specs.declared.new_file.Standing.TheVariants.{Gone, Kept, Stuck};
 
-use crate::answer::verdict::{CHUNK, program_context, reply_of, whole_verdict};
+use crate::answer::verdict::{CHUNK, reply_of, whole_verdict};
 use crate::fault::Fault;
-use crate::job::Checks;
 use crate::limits::{
     LARGE_HEADER, LARGE_KEYS, LARGE_NESTING, Limits, SMALL_HEADER, SMALL_KEYS, SMALL_NESTING,
 };
 use crate::new_file::NewFiles;
 use crate::print::{print_fault, print_reply};
 use crate::reply::{Reply, Status};
+use crate::request::Checks;
 use crate::vouch::Vouch;
 use crate::write_sink::WriteSink;
 use cose_msg::laws::settled_stays;
@@ -78,17 +78,16 @@ fn reply_into<const H: usize, const D: usize, const N: usize, I: Intake, S: Sink
     requires some_keys { 1 ≤ N }
     requires keys_limit { N ≤ 256 }
     requires sizes { AreSizesUnder checks.now.limits H D N }
-    requires external { length checks.now.aad.now ≤ 65535 }
-    ensures says { RepliesTo (I.to_come intake.old) (verified_for checks.now None) result }
-    ensures payload { PutsPayload (I.to_come intake.old) (payload_under (job_under checks.now))
+    ensures says { RepliesTo (I.to_come intake.old) (verified_under (under_of checks.now) None) result }
+    ensures payload { PutsPayload (I.to_come intake.old) (payload_under (under_of checks.now))
         (S.contents sink.old) (S.contents sink.new) result }
 {
-    let keys = match KeyTable::<N>::read_restricted(checks.keys, &checks.restrictions) {
+    let keys = match checks.key_table::<N>() {
         Ok(keys) => keys,
         Err(refusal) => return Err(Fault::Keys(refusal)),
     };
-    let context = program_context(keys, checks.aad, checks.wanted);
-    let vouch = Vouch { word: checks.vouch };
+    let context = checks.context(keys);
+    let vouch = checks.vouch();
     let verdict = verdict_into::<H, D, N, _, _>(context, &vouch, intake, sink)?;
     reply_of(alloc, verdict)
 }
@@ -100,9 +99,8 @@ fn reply_in_room<I: Intake, S: Sink>(
     intake: &mut I,
     sink: &mut S,
 ) -> Result<Reply, Fault>
-    requires external { length checks.now.aad.now ≤ 65535 }
-    ensures says { RepliesTo (I.to_come intake.old) (verified_for checks.now None) result }
-    ensures payload { PutsPayload (I.to_come intake.old) (payload_under (job_under checks.now))
+    ensures says { RepliesTo (I.to_come intake.old) (verified_under (under_of checks.now) None) result }
+    ensures payload { PutsPayload (I.to_come intake.old) (payload_under (under_of checks.now))
         (S.contents sink.old) (S.contents sink.new) result }
 {
     match checks.limits {
@@ -122,9 +120,8 @@ fn reply_written<N: Write, R: Read>(
     file: &mut N,
     input: &mut R,
 ) -> Result<Reply, Fault>
-    requires external { length checks.now.aad.now ≤ 65535 }
-    ensures says { RepliesTo (R.remaining input.old) (verified_for checks.now None) result }
-    ensures payload { PutsPayload (R.remaining input.old) (payload_under (job_under checks.now))
+    ensures says { RepliesTo (R.remaining input.old) (verified_under (under_of checks.now) None) result }
+    ensures payload { PutsPayload (R.remaining input.old) (payload_under (under_of checks.now))
         (N.contents file.old) (N.contents file.new) result }
 {
     let mut intake = ReadIntake::new(input);
@@ -214,8 +211,8 @@ fn withdraw<N: NewFiles>(status: Status, files: &mut N)
     }
 }
 
-/// Does the job `verify` with a new file, to which the payload is written while the message is read. The file is kept only
-/// after the authentic verdict, where no byte follows the message; in all else it is as [`answer`](crate::answer::answer).
+/// Verifies a message that has its payload, with a new file, to which the payload is written while the message is read. The file is kept only
+/// after the authentic verdict, where no byte follows the message; in all else it is as without a file.
 pub fn answer_to_new_file<N: NewFiles, R: Read, W: Write>(
     alloc: Global,
     checks: &Checks,
@@ -224,12 +221,11 @@ pub fn answer_to_new_file<N: NewFiles, R: Read, W: Write>(
     input: &mut R,
     output: &mut W,
 ) -> u8
-    requires external { length checks.now.aad.now ≤ 65535 }
     ensures status { result ≤ 2 }
     // It prints what it prints without a file.
-    ensures printed { PrintsFor (R.remaining input.old) (verified_for checks.now None)
+    ensures printed { PrintsFor (R.remaining input.old) (verified_under (under_of checks.now) None)
         (W.contents output.old) (W.contents output.new) result }
-    ensures fails { FailsFor (R.remaining input.old) (verified_for checks.now None)
+    ensures fails { FailsFor (R.remaining input.old) (verified_under (under_of checks.now) None)
         (W.contents output.old) (W.contents output.new) result }
     // Where it says authentic, the file is kept, and exactly the payload was written to it.
     ensures kept { result ≡ 0 → N.made files.new
@@ -237,7 +233,7 @@ pub fn answer_to_new_file<N: NewFiles, R: Read, W: Write>(
     ensures payload { (made : MadeFile) (bytes : List ℕ) → (N.made files.old).file ≡ Some made →
         R.remaining input.old ≡ Some bytes → result ≡ 0 →
         Appends (N.New.contents file.old) (content_of (N.made files.new))
-        (payload_under (job_under checks.now) bytes) }
+        (payload_under (under_of checks.now) bytes) }
     // After a refusal the file is gone, and after a fault too, unless the system doesn't remove it.
     ensures refused { result ≡ 1 → N.made files.new ≡ settled Gone None (N.made files.old) }
     ensures fault { result ≡ 2 → IsRemoved (N.made files.old) (N.made files.new) }
@@ -267,8 +263,10 @@ fn new_file<N: NewFiles>(alloc: Global, files: &mut N, name: &str) -> Result<N::
     }
 }
 
-/// Does the job `verify`, and keeps the payload of an authentic message in a new file of this name. A name that exists is a
-/// fault, before the input is read. In all else it is as [`answer_to_new_file`].
+/// Verifies a message that has its payload, and keeps the payload of an authentic one in a new file of this name. A name that
+/// exists is a fault, before the input is read. In all else it is as [`answer_to_new_file`]. Not inlined: nothing else is to take
+/// the stack that files take.
+#[inline(never)]
 pub fn answer_with_payload_to<N: NewFiles, R: Read, W: Write>(
     alloc: Global,
     checks: &Checks,
@@ -277,17 +275,16 @@ pub fn answer_with_payload_to<N: NewFiles, R: Read, W: Write>(
     input: &mut R,
     output: &mut W,
 ) -> u8
-    requires external { length checks.now.aad.now ≤ 65535 }
     ensures status { result ≤ 2 }
-    ensures printed { PrintsFor (R.remaining input.old) (verified_for checks.now None)
+    ensures printed { PrintsFor (R.remaining input.old) (verified_under (under_of checks.now) None)
         (W.contents output.old) (W.contents output.new) result }
-    ensures fails { FailsFor (R.remaining input.old) (verified_for checks.now None)
+    ensures fails { FailsFor (R.remaining input.old) (verified_under (under_of checks.now) None)
         (W.contents output.old) (W.contents output.new) result }
     // Where it says authentic, the file of this name is kept, and holds exactly the payload.
     ensures kept { result ≡ 0 → Stands name.now Kept (N.made files.new) }
     ensures payload { (bytes : List ℕ) → R.remaining input.old ≡ Some bytes →
         N.is_known ≡ true → result ≡ 0 →
-        content_of (N.made files.new) ≡ Some (payload_under (job_under checks.now) bytes) }
+        content_of (N.made files.new) ≡ Some (payload_under (under_of checks.now) bytes) }
     // After a refusal the file is gone, and after a fault too, unless the system doesn't remove it, or none was made.
     ensures refused { result ≡ 1 → Stands name.now Gone (N.made files.new) }
     ensures fault { result ≡ 2 → ((N.made files.new).file ≡ (N.made files.old).file)

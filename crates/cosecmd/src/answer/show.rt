@@ -1,4 +1,4 @@
-//! The lines of the job `show`: the shape of a message, what is in its headers, and its payload.
+//! The lines of the command `show`: the shape of a message, what is in its headers, and its payload.
 
 ghost use Rattle.std.specs.Prelude.{◌≡◌, ◌≤◌, ◌++◌, ◌&&◌, ◌||◌, ℕ, true, false, List, [], Some, IfErr, IfOk, codes, is_err, length, option_map, string_bytes};
 ghost use Rattle.cose_head.specs.ItemRef.{placed};
@@ -17,12 +17,12 @@ ghost use Rattle.cosecmd.specs.Readable.{no_payload_shown, pair_notation, payloa
 use crate::answer::cwt::token_context;
 use crate::answer::verdict::{CHUNK, program_context, reply_of, trailing_at};
 use crate::fault::Fault;
-use crate::job::Details;
 use crate::limits::{
     LARGE_CLAIMS, LARGE_HEADER, LARGE_NESTING, Limits, SMALL_CLAIMS, SMALL_HEADER, SMALL_NESTING,
 };
 use crate::line::word_of;
 use crate::reply::{Reply, Status};
+use crate::request::Details;
 use cose_head::ItemRef;
 use cose_map::Bucket;
 use cose_msg::laws::settled_stays;
@@ -405,7 +405,7 @@ fn shown_reply<const H: usize, const D: usize, const L: usize, I: Intake>(
     reply_without_payload::<H, D, _>(alloc, wanted, details, intake)
 }
 
-/// The reply to the job `show`.
+/// The reply to the message on the input, which is shown under no key.
 pub fn show_reply<R: Read>(
     alloc: Global,
     limits: Limits,

@@ -4,6 +4,7 @@ use Rattle.cosecmd.specs.CommandLine.{AsksFor, begins_as_answer}
 use Rattle.cosecmd.specs.InputForm.{input_bytes}
 use Rattle.cosecmd.specs.declared.arguments.Parsed.TheVariants.{Matches, Text}
 use Rattle.cosecmd.proofs.Asked.{ends_with, fails_with, not_made}
+use Rattle.cosecmd.proofs.AskedMaking.{stops_or_fails}
 use Rattle.cosecmd.proofs.AskedSequences.{found_fails, not_of_sequence}
 use Rattle.cosecmd.proofs.CommandLines.{found_in, text_read}
 use Rattle.cosecmd.proofs.KeptRequests.{settles_named}
@@ -33,10 +34,10 @@ returns-in-Ok-clause-printed g c = λ bytes e.
     inr (
       met.matches,
       found_in _ met.field-0 met.matches is met.ensures,
-      (λ well. (c.in-Ok.request, record { payload = c.in-Ok.ensures.payload; making = c.in-Ok.ensures.making; sequence = c.in-Ok.ensures.sequence }, λ payload named. c.answer_request.ensures.printed read payload known named)),
+      (λ well. (c.in-Ok.request, record { payload = c.in-Ok.ensures.payload; making = c.in-Ok.ensures.making; sequence = c.in-Ok.ensures.sequence }, λ payload named. c.answer.ensures.printed read payload known named)),
       λ said prints.
           let asks = c.in-Ok.ensures.asks read said prints in
-          ends_with _ _ _ asks.2 (c.answer_request.ensures.printed read asks.0 known asks.1),
+          ends_with _ _ _ asks.2 (c.answer.ensures.printed read asks.0 known asks.1),
     )
 
 pub returns-in-Ok-clause-fails : goal.returns-in-Ok-clause-fails
@@ -51,13 +52,19 @@ returns-in-Ok-clause-fails g c = λ bytes e two.
       record {
         one = λ said prints other alone.
             let asks = c.in-Ok.ensures.asks read said prints in
-            fails_with _ _ asks.2 (c.answer_request.ensures.fails read asks.0 known asks.1 (not_made c.in-Ok.request _ c.in-Ok.ensures.making other) (not_of_sequence c.in-Ok.request _ c.in-Ok.ensures.sequence alone) two);
+            fails_with _ _ asks.2 (c.answer.ensures.fails read asks.0 known asks.1 (not_made c.in-Ok.request _ c.in-Ok.ensures.making other) (not_of_sequence c.in-Ok.request _ c.in-Ok.ensures.sequence alone) two);
+        making = λ said each alone.
+            let asks : (input : List ℕ) → AsksFor (g.F.NamedFiles.content c.args.files.now) c.in-Ok.request input (said input) = λ input. c.in-Ok.ensures.asks input (said input) (each input) in
+            let these = asks read in
+            stops_or_fails (g.F.NamedFiles.content c.args.files.now) c.in-Ok.request said read _ _ asks
+            (λ none. fails_with _ _ these.2 (c.answer.ensures.fails read these.0 known these.1 none (not_of_sequence c.in-Ok.request _ c.in-Ok.ensures.sequence alone) two))
+            (λ is. c.answer.ensures.stops read known is two);
         sequence = λ said each other.
             let asks : (input : List ℕ) → AsksFor (g.F.NamedFiles.content c.args.files.now) c.in-Ok.request input (said input) = λ input. c.in-Ok.ensures.asks input (said input) (each input) in
             let these = asks read in
             found_fails (g.F.NamedFiles.content c.args.files.now) c.in-Ok.request said read _ _ asks
-            (λ one. fails_with _ _ these.2 (c.answer_request.ensures.fails read these.0 known these.1 (not_made c.in-Ok.request _ c.in-Ok.ensures.making other) one two))
-            (λ is. c.answer_request.ensures.sequence read known is two);
+            (λ one. fails_with _ _ these.2 (c.answer.ensures.fails read these.0 known these.1 (not_made c.in-Ok.request _ c.in-Ok.ensures.making other) one two))
+            (λ is. c.answer.ensures.sequence read known is two);
       },
     ))
 
@@ -68,7 +75,7 @@ returns-in-Ok-clause-new_file g c =
     inr (
       met.matches,
       found_in _ met.field-0 met.matches is met.ensures,
-      settles_named c.in-Ok.request _ _ _ _ c.in-Ok.ensures.keeping c.answer_request.ensures.settled (λ none. ap g.N.NewFiles.made (c.answer_request.ensures.unnamed none)),
+      settles_named c.in-Ok.request _ _ _ _ c.in-Ok.ensures.keeping c.answer.ensures.settled (λ none. ap g.N.NewFiles.made (c.answer.ensures.unnamed none)),
     )
 
 pub returns-in-Ok-clause-payload : goal.returns-in-Ok-clause-payload
@@ -81,7 +88,7 @@ returns-in-Ok-clause-payload g c = λ bytes e is_known.
       met.matches,
       found_in _ met.field-0 met.matches is met.ensures,
       λ name under named said zero.
-          c.answer_request.ensures.payload under read (c.in-Ok.ensures.kept name under (c.in-Ok.ensures.keeping ∙ named) said) known is_known zero,
+          c.answer.ensures.payload under read (c.in-Ok.ensures.kept name under (c.in-Ok.ensures.keeping ∙ named) said) known is_known zero,
     )
 
 pub returns-in-Ok-clause-unread : goal.returns-in-Ok-clause-unread
@@ -92,7 +99,7 @@ returns-in-Ok-clause-unread g c =
       met.matches,
       found_in _ met.field-0 met.matches is met.ensures,
       λ name some same.
-          let unmade = c.answer_request.ensures.unmade name (c.in-Ok.ensures.keeping ∙ some) same in
+          let unmade = c.answer.ensures.unmade name (c.in-Ok.ensures.keeping ∙ some) same in
           (ap reader_of unmade.0 ∙ c.read_as.ensures.reader, unmade.1),
     )
 

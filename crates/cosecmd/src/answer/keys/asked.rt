@@ -19,7 +19,8 @@ use crate::answer::verdict::reply_of;
 use crate::fault::Fault;
 use crate::limits::{LARGE_HEADER, LARGE_NESTING};
 use crate::reply::Reply;
-use cose_head::ItemRef;
+use cose_head::laws::bare_head_is_spelling;
+use cose_head::{HeadStep, ItemRef, parse_head};
 use cose_map::{Bucket, Label, Query};
 use cose_msg::laws::{authentication_decides, messages_are_bounded, settled_stays};
 use cose_msg::{
@@ -34,6 +35,12 @@ const NO_KEYS: &[u8] = &[0xa0];
 
 /// The most bytes that decide what is known of the headers: two buckets of 65,535 bytes, and six heads of at most nine bytes.
 const FRONT: u64 = 131_124;
+
+/// The tag of a CWT (RFC 8392 section 6).
+const CWT_TAG: u64 = 61;
+
+/// The tag of a COSE_Sign1 (RFC 9052 section 2).
+const SIGN1_TAG: u64 = 18;
 
 /// The first bytes of the input.
 fn front_of<R: Read>(alloc: Global, input: &mut R) -> Result<Vec<u8>, Fault>
@@ -72,13 +79,6 @@ fn headers_context<'k>(keys: KeySet<'k>, wanted: Wanted) -> Context<'k, KeySet<'
     }
 }
 
-/// Whether a message of another kind is refused for this reason.
-fn is_of_tag(reason: Reason) -> bool
-    ensures { result ≡ spec.is_of_tag reason }
-{
-    matches!(reason, Reason::WrongTag)
-}
-
 /// Whether no key is chosen for this reason, where there is none.
 fn is_of_choice(reason: Reason) -> bool
     ensures { result ≡ spec.is_of_choice reason }
@@ -89,29 +89,39 @@ fn is_of_choice(reason: Reason) -> bool
     )
 }
 
-/// The kind of a message that begins with these bytes and has its tag.
-#[inline(never)]
-fn tagged_kind<'k>(keys: KeySet<'k>, front: &[u8]) -> Kind
-    requires none { usable_keys keys ≡ [] }
-    ensures { result ≡ spec.kind_asked Wanted.Tagged front.now }
+/// The number of a tag (RFC 8949 section 3.4), where a head is one.
+fn number_of_tag(step: HeadStep) -> Option<u64>
+    ensures { result ≡ spec.number_of_tag step }
 {
-    let context = headers_context(keys, Wanted::Mac0);
-    let mut verifier = Verifier::<LARGE_HEADER, LARGE_NESTING, KeySet<'_>>::new(context);
-    match verify_slice(&mut verifier, front, &Never) {
-        Verified::Refused(refusal) if is_of_tag(refusal.reason) => Kind::Sign1,
-        _ => Kind::Mac0,
+    match step {
+        HeadStep::Got(head, _) if head.major == 6 => Some(head.arg),
+        _ => None,
+    }
+}
+
+/// The number of the COSE tag of a message that begins with these bytes: a CWT may have its own tag before that.
+fn cose_tag(front: &[u8]) -> Option<u64>
+    ensures { result ≡ spec.cose_tag front.now }
+{
+    match parse_head(front) {
+        HeadStep::Got(head, used) if head.major == 6 && head.arg == CWT_TAG => {
+            number_of_tag(parse_head(&front[used..]))
+        }
+        step => number_of_tag(step),
     }
 }
 
 /// The kind of a message of these kinds that begins with these bytes.
-fn kind_of<'k>(keys: KeySet<'k>, front: &[u8], wanted: Wanted) -> Kind
-    requires none { usable_keys keys ≡ [] }
+fn kind_of(front: &[u8], wanted: Wanted) -> Kind
     ensures { result ≡ spec.kind_asked wanted front.now }
 {
     match wanted {
         Wanted::Mac0 => Kind::Mac0,
         Wanted::Sign1 => Kind::Sign1,
-        Wanted::Tagged => tagged_kind(keys, front),
+        Wanted::Tagged => match cose_tag(front) {
+            Some(SIGN1_TAG) => Kind::Sign1,
+            _ => Kind::Mac0,
+        },
     }
 }
 
@@ -212,11 +222,13 @@ pub fn asked_reply<R: Read>(
     // Laws of messages that the proof cites: so many bytes settle the headers, and what is settled stays.
     messages_are_bounded();
     settled_stays();
+    // And so many bytes have the heads of the tags.
+    bare_head_is_spelling();
     let front = front_of(alloc, input)?;
     match no_keys() {
         Ok(keys) => {
             let front = front.as_slice();
-            let kind = kind_of(keys, front, wanted);
+            let kind = kind_of(front, wanted);
             reply_for(alloc, set, usable, keys, wanted, kind, front)
         }
         // It is a set.

@@ -1,6 +1,6 @@
 //! The messages of a sequence, each of which is verified.
 
-ghost use Rattle.std.specs.Prelude.{◌≡◌, ◌≤◌, false, Ok, length, option_map};
+ghost use Rattle.std.specs.Prelude.{◌≡◌, ◌≤◌, false, Ok, option_map};
 ghost use Rattle.cose_cwt.specs.Token.{read_as};
 ghost use Rattle.cose_map.specs.Key.View.{contents};
 ghost use Rattle.cose_map.specs.PreparedTable.{prepared_keys};
@@ -9,18 +9,18 @@ ghost use Rattle.cose_msg.specs.Verifier.{is_detached, setting_in};
 ghost use Rattle.cosecmd.specs.Limits.{AreSizesUnder};
 ghost use Rattle.cosecmd.specs.Printed.{input_answer, output_of};
 ghost use Rattle.cosecmd.specs.Sequence.{FailsOverSequence, PrintsSequence, verified_sequence};
-ghost use Rattle.cosecmd.specs.Under.{job_under};
+ghost use Rattle.cosecmd.specs.Under.{under_of};
 ghost use Rattle.cosecmd.specs.Vouch.{vouching};
 
 use crate::answer::sequence::{Missing, PIECE, Part, Parts, is_read_whole, missing_by, print_read};
-use crate::answer::verdict::{program_context, reply_of};
+use crate::answer::verdict::reply_of;
 use crate::fault::Fault;
-use crate::job::Checks;
 use crate::limits::{
     LARGE_HEADER, LARGE_KEYS, LARGE_NESTING, Limits, SMALL_HEADER, SMALL_KEYS, SMALL_NESTING,
 };
 use crate::print::print_fault;
 use crate::reply::Status;
+use crate::request::Checks;
 use crate::vouch::Vouch;
 use cose_msg::laws::settled_stays;
 use cose_msg::{Intake, KeyTable, Keys, Nothing, PreparedTable, Verifier, verify};
@@ -88,25 +88,20 @@ fn print_within<const H: usize, const D: usize, const N: usize, R: Read, W: Writ
     requires some_keys { 1 ≤ N }
     requires keys_limit { N ≤ 256 }
     requires sizes { AreSizesUnder checks.now.limits H D N }
-    requires external { length checks.now.aad.now ≤ 65535 }
     ensures prints { PrintsSequence (R.remaining input.old)
-        (verified_sequence (job_under checks.now)) (W.contents output.old)
+        (verified_sequence (under_of checks.now)) (W.contents output.old)
         (W.contents output.new) result }
     ensures fails { FailsOverSequence (R.remaining input.old)
-        (verified_sequence (job_under checks.now)) (W.contents output.old)
+        (verified_sequence (under_of checks.now)) (W.contents output.old)
         (W.contents output.new) result }
 {
-    let keys = match KeyTable::<N>::read_restricted(checks.keys, &checks.restrictions) {
+    let keys = match checks.key_table::<N>() {
         Ok(keys) => keys,
         Err(refusal) => return print_fault(alloc, Fault::Keys(refusal), output),
     };
     let mut messages = Messages {
-        vouch: Vouch { word: checks.vouch },
-        verifier: Verifier::<H, D, KeyTable<'_, N>>::new(program_context(
-            keys,
-            checks.aad,
-            checks.wanted,
-        )),
+        vouch: checks.vouch(),
+        verifier: Verifier::<H, D, KeyTable<'_, N>>::new(checks.context(keys)),
     };
     print_read(alloc, &mut messages, input, output)
 }
@@ -116,7 +111,7 @@ fn print_within<const H: usize, const D: usize, const N: usize, R: Read, W: Writ
 fn print_prepared<'j, const H: usize, const D: usize, const N: usize, R: Read, W: Write>(
     alloc: Global,
     prepared: &'j PreparedTable<'j, N>,
-    checks: &'j Checks<'j>,
+    checks: &'j Checks,
     input: &mut R,
     output: &mut W,
 ) -> Status
@@ -124,22 +119,17 @@ fn print_prepared<'j, const H: usize, const D: usize, const N: usize, R: Read, W
     requires limit { H ≤ 65535 }
     requires nesting { D ≤ 32 }
     requires sizes { AreSizesUnder checks.now.limits H D N }
-    requires keys_are { (job_under checks.now).keys ≡ Ok (prepared_keys prepared.now) }
-    requires external { length checks.now.aad.now ≤ 65535 }
+    requires keys_are { (under_of checks.now).keys ≡ Ok (prepared_keys prepared.now) }
     ensures prints { PrintsSequence (R.remaining input.old)
-        (verified_sequence (job_under checks.entry.now)) (W.contents output.old)
+        (verified_sequence (under_of checks.entry.now)) (W.contents output.old)
         (W.contents output.new) result }
     ensures fails { FailsOverSequence (R.remaining input.old)
-        (verified_sequence (job_under checks.entry.now)) (W.contents output.old)
+        (verified_sequence (under_of checks.entry.now)) (W.contents output.old)
         (W.contents output.new) result }
 {
     let messages = &mut Messages {
-        vouch: Vouch { word: checks.vouch },
-        verifier: Verifier::<H, D, &PreparedTable<'_, N>>::new(program_context(
-            prepared,
-            checks.aad,
-            checks.wanted,
-        )),
+        vouch: checks.vouch(),
+        verifier: Verifier::<H, D, &PreparedTable<'_, N>>::new(checks.context(prepared)),
     };
     print_read(alloc, messages, input, output)
 }
@@ -154,15 +144,14 @@ fn print_small<R: Read, W: Write>(
     output: &mut W,
 ) -> Status
     requires small { checks.now.limits ≡ Limits.Small }
-    requires external { length checks.now.aad.now ≤ 65535 }
     ensures prints { PrintsSequence (R.remaining input.old)
-        (verified_sequence (job_under checks.now)) (W.contents output.old)
+        (verified_sequence (under_of checks.now)) (W.contents output.old)
         (W.contents output.new) result }
     ensures fails { FailsOverSequence (R.remaining input.old)
-        (verified_sequence (job_under checks.now)) (W.contents output.old)
+        (verified_sequence (under_of checks.now)) (W.contents output.old)
         (W.contents output.new) result }
 {
-    let keys = match KeyTable::<SMALL_KEYS>::read_restricted(checks.keys, &checks.restrictions) {
+    let keys = match checks.key_table::<SMALL_KEYS>() {
         Ok(keys) => keys,
         Err(refusal) => return print_fault(alloc, Fault::Keys(refusal), output),
     };
@@ -179,12 +168,11 @@ pub fn print_verified<R: Read, W: Write>(
     input: &mut R,
     output: &mut W,
 ) -> Status
-    requires external { length checks.now.aad.now ≤ 65535 }
     ensures prints { PrintsSequence (R.remaining input.old)
-        (verified_sequence (job_under checks.now)) (W.contents output.old)
+        (verified_sequence (under_of checks.now)) (W.contents output.old)
         (W.contents output.new) result }
     ensures fails { FailsOverSequence (R.remaining input.old)
-        (verified_sequence (job_under checks.now)) (W.contents output.old)
+        (verified_sequence (under_of checks.now)) (W.contents output.old)
         (W.contents output.new) result }
 {
     match checks.limits {

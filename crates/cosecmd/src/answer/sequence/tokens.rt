@@ -1,6 +1,6 @@
 //! The tokens of a sequence, each of which is admitted.
 
-ghost use Rattle.std.specs.Prelude.{◌≡◌, ◌≤◌, true, false, Ok, length, option_map};
+ghost use Rattle.std.specs.Prelude.{◌≡◌, ◌≤◌, true, false, Ok, option_map};
 ghost use Rattle.cose_cwt.specs.Admission.View.{policy_value};
 ghost use Rattle.cose_cwt.specs.Requirements.View.{requirements_value};
 ghost use Rattle.cose_cwt.specs.Token.{claims_seen, read_as};
@@ -9,22 +9,24 @@ ghost use Rattle.cose_map.specs.PreparedTable.{prepared_keys};
 ghost use Rattle.cose_msg.specs.Kept.{is_inspecting};
 ghost use Rattle.cose_msg.specs.Verifier.{is_detached, setting_in};
 ghost use Rattle.cosecmd.specs.Admitted.{admission_seen, if_admitted, input_token};
+ghost use Rattle.cosecmd.specs.Arguments.{admitted_each_for};
 ghost use Rattle.cosecmd.specs.Limits.{AreSizesUnder, room_of};
 ghost use Rattle.cosecmd.specs.Printed.{outcome_said};
-ghost use Rattle.cosecmd.specs.Sequence.{FailsOverSequence, PrintsSequence, admitted_each, is_read_to_its_end};
-ghost use Rattle.cosecmd.specs.Under.{job_under};
+ghost use Rattle.cosecmd.specs.Sequence.{FailsOverSequence, PrintsSequence, is_read_to_its_end};
+ghost use Rattle.cosecmd.specs.Under.{under_of};
 ghost use Rattle.cosecmd.specs.Vouch.{vouching};
 
-use crate::answer::cwt::{policy_of, token_context, token_reply};
+use crate::answer::cwt::{policy_of, token_reply};
 use crate::answer::sequence::{Missing, PIECE, Part, Parts, missing_by, print_read};
 use crate::fault::Fault;
-use crate::job::TokenJob;
 use crate::limits::{
     LARGE_CLAIMS, LARGE_HEADER, LARGE_KEYS, LARGE_NESTING, Limits, SMALL_CLAIMS, SMALL_HEADER,
     SMALL_KEYS, SMALL_NESTING,
 };
 use crate::print::print_fault;
 use crate::reply::Status;
+use crate::request::Cwt;
+use crate::requirements::requirements_of;
 use crate::vouch::Vouch;
 use cose_cwt::{Claims, CwtStop, Policy, Requirements, TokenStop, verify_cwt};
 use cose_msg::laws::settled_stays;
@@ -128,7 +130,7 @@ fn print_within<
     const L: usize,
     R: Read,
     W: Write,
->(alloc: Global, job: &'j TokenJob<'j>, input: &mut R, output: &mut W) -> Status
+>(alloc: Global, words: &'j Cwt<'j>, input: &mut R, output: &mut W) -> Status
     requires some_room { 16 ≤ H }
     requires limit { H ≤ 65535 }
     requires nesting { D ≤ 32 }
@@ -136,30 +138,27 @@ fn print_within<
     requires keys_limit { N ≤ 256 }
     requires some_store { 16 ≤ L }
     requires store_limit { L ≤ 65535 }
-    requires sizes { AreSizesUnder job.now.checks.limits H D N }
-    requires claims { (room_of job.now.checks.limits).claims ≡ L }
-    requires external { length job.now.checks.aad.now ≤ 65535 }
-    ensures prints { PrintsSequence (R.remaining input.old) (admitted_each job.entry.now)
+    requires sizes { AreSizesUnder words.now.checks.limits H D N }
+    requires claims { (room_of words.now.checks.limits).claims ≡ L }
+    ensures prints { PrintsSequence (R.remaining input.old) (admitted_each_for words.entry.now)
         (W.contents output.old) (W.contents output.new) result }
-    ensures fails { FailsOverSequence (R.remaining input.old) (admitted_each job.entry.now)
+    ensures fails { FailsOverSequence (R.remaining input.old) (admitted_each_for words.entry.now)
         (W.contents output.old) (W.contents output.new) result }
 {
-    let keys = match KeyTable::<N>::read_restricted(job.checks.keys, &job.checks.restrictions) {
+    let keys = match words.checks.key_table::<N>() {
         Ok(keys) => keys,
         Err(refusal) => return print_fault(alloc, Fault::Keys(refusal), output),
     };
-    let vouch = Vouch {
-        word: job.checks.vouch,
-    };
-    let policy = policy_of(job.now, job.leeway, &job.aud);
-    let requirements = job.requirements;
-    let context = token_context::<L, _>(keys, job.checks.aad, job.checks.wanted);
+    let vouch = words.checks.vouch();
+    let policy = policy_of(words.now, words.leeway, &words.aud);
+    let requirements = requirements_of(&words.required, words.now, words.leeway);
+    let context = words.checks.token_context::<L, _>(keys);
     let verifier = Verifier::<H, D, KeyTable<'_, N>>::new(context);
     let mut tokens = Tokens::<'_, H, D, L, KeyTable<'_, N>> {
         vouch,
         policy,
         requirements,
-        readable: job.readable,
+        readable: words.readable,
         verifier,
         store: Store::new(),
     };
@@ -179,7 +178,7 @@ fn print_prepared<
 >(
     alloc: Global,
     prepared: &'j PreparedTable<'j, N>,
-    job: &'j TokenJob<'j>,
+    words: &'j Cwt<'j>,
     input: &mut R,
     output: &mut W,
 ) -> Status
@@ -188,26 +187,23 @@ fn print_prepared<
     requires nesting { D ≤ 32 }
     requires some_store { 16 ≤ L }
     requires store_limit { L ≤ 65535 }
-    requires sizes { AreSizesUnder job.now.checks.limits H D N }
-    requires claims { (room_of job.now.checks.limits).claims ≡ L }
-    requires keys_are { (job_under job.now.checks).keys ≡ Ok (prepared_keys prepared.now) }
-    requires external { length job.now.checks.aad.now ≤ 65535 }
-    ensures prints { PrintsSequence (R.remaining input.old) (admitted_each job.entry.now)
+    requires sizes { AreSizesUnder words.now.checks.limits H D N }
+    requires claims { (room_of words.now.checks.limits).claims ≡ L }
+    requires keys_are { (under_of words.now.checks).keys ≡ Ok (prepared_keys prepared.now) }
+    ensures prints { PrintsSequence (R.remaining input.old) (admitted_each_for words.entry.now)
         (W.contents output.old) (W.contents output.new) result }
-    ensures fails { FailsOverSequence (R.remaining input.old) (admitted_each job.entry.now)
+    ensures fails { FailsOverSequence (R.remaining input.old) (admitted_each_for words.entry.now)
         (W.contents output.old) (W.contents output.new) result }
 {
-    let vouch = Vouch {
-        word: job.checks.vouch,
-    };
-    let policy = policy_of(job.now, job.leeway, &job.aud);
-    let requirements = job.requirements;
-    let context = token_context::<L, _>(prepared, job.checks.aad, job.checks.wanted);
+    let vouch = words.checks.vouch();
+    let policy = policy_of(words.now, words.leeway, &words.aud);
+    let requirements = requirements_of(&words.required, words.now, words.leeway);
+    let context = words.checks.token_context::<L, _>(prepared);
     let tokens = &mut Tokens::<'_, H, D, L, &PreparedTable<'_, N>> {
         vouch,
         policy,
         requirements,
-        readable: job.readable,
+        readable: words.readable,
         verifier: Verifier::<H, D, &PreparedTable<'_, N>>::new(context),
         store: Store::new(),
     };
@@ -219,46 +215,43 @@ fn print_prepared<
 #[inline(never)]
 fn print_small<'j, R: Read, W: Write>(
     alloc: Global,
-    job: &'j TokenJob<'j>,
+    words: &'j Cwt<'j>,
     input: &mut R,
     output: &mut W,
 ) -> Status
-    requires small { job.now.checks.limits ≡ Limits.Small }
-    requires external { length job.now.checks.aad.now ≤ 65535 }
-    ensures prints { PrintsSequence (R.remaining input.old) (admitted_each job.entry.now)
+    requires small { words.now.checks.limits ≡ Limits.Small }
+    ensures prints { PrintsSequence (R.remaining input.old) (admitted_each_for words.entry.now)
         (W.contents output.old) (W.contents output.new) result }
-    ensures fails { FailsOverSequence (R.remaining input.old) (admitted_each job.entry.now)
+    ensures fails { FailsOverSequence (R.remaining input.old) (admitted_each_for words.entry.now)
         (W.contents output.old) (W.contents output.new) result }
 {
-    let checks = &job.checks;
-    let keys = match KeyTable::<SMALL_KEYS>::read_restricted(checks.keys, &checks.restrictions) {
+    let keys = match words.checks.key_table::<SMALL_KEYS>() {
         Ok(keys) => keys,
         Err(refusal) => return print_fault(alloc, Fault::Keys(refusal), output),
     };
     let prepared = &PreparedTable::new(keys);
     print_prepared::<SMALL_HEADER, SMALL_NESTING, SMALL_KEYS, SMALL_CLAIMS, _, _>(
-        alloc, prepared, job, input, output,
+        alloc, prepared, words, input, output,
     )
 }
 
 /// Admits each token of a sequence, and writes its lines as soon as they are known.
 pub fn print_admitted<'j, R: Read, W: Write>(
     alloc: Global,
-    job: &'j TokenJob<'j>,
+    words: &'j Cwt<'j>,
     input: &mut R,
     output: &mut W,
 ) -> Status
-    requires external { length job.now.checks.aad.now ≤ 65535 }
-    ensures prints { PrintsSequence (R.remaining input.old) (admitted_each job.entry.now)
+    ensures prints { PrintsSequence (R.remaining input.old) (admitted_each_for words.entry.now)
         (W.contents output.old) (W.contents output.new) result }
-    ensures fails { FailsOverSequence (R.remaining input.old) (admitted_each job.entry.now)
+    ensures fails { FailsOverSequence (R.remaining input.old) (admitted_each_for words.entry.now)
         (W.contents output.old) (W.contents output.new) result }
 {
-    match job.checks.limits {
-        Limits::Small => print_small(alloc, job, input, output),
+    match words.checks.limits {
+        Limits::Small => print_small(alloc, words, input, output),
         Limits::Large => {
             print_within::<LARGE_HEADER, LARGE_NESTING, LARGE_KEYS, LARGE_CLAIMS, _, _>(
-                alloc, job, input, output,
+                alloc, words, input, output,
             )
         }
     }

@@ -1,6 +1,7 @@
 use Rattle.std.proofs.Common.{◌<◌, ◌^◌, Ok, Result, rules, sym}
 use Rattle.cosecmd.specs.declared.fault.Fault.{Fault}
 use Rattle.cosecmd.specs.declared.reply.Reply.{Reply}
+use Rattle.cosecmd.specs.Under.{under_of}
 use Rattle.cosecmd.proofs.DetachedReplies.{says_from_reader}
 use Rattle.cosecmd.proofs.Failures.{keys_unrefused, stopped_by_second}
 use Rattle.cosecmd.proofs.PayloadFiles.{ends_whole}
@@ -8,12 +9,12 @@ use Rattle.cosecmd.proofs.answer.message.reply_with_file.Goals as goal
 
 pub returns-in-Ok-clause-says : goal.returns-in-Ok-clause-says
 returns-in-Ok-clause-says g c = λ bytes content e told.
-    let job = c.args.job.now in
+    let stated = c.args.payload_length in
     let after = c.reply_beside.new.payload in
-    let small : job.length < 2 ^ 64 = search rules in
+    let small : stated < 2 ^ 64 = search rules in
     let small_left : after.left < 2 ^ 64 = after.in_range in
     let reply : Result Reply Fault = Ok c.in-Ok.reply in
-    says_from_reader c.deciding_goes_last.ensures.verifying c.payload_stays.ensures.complete job content bytes after.left (g.R.Read.remaining after.reader) _ small small_left _ reply told
+    says_from_reader c.args.question (under_of c.args.checks.now) stated c.deciding_goes_last.ensures.verifying c.payload_stays.ensures.complete content bytes after.left (g.R.Read.remaining after.reader) _ small small_left _ reply told
     c.in-Ok.ensures.keys (rw e at c.in-Ok.ensures.says) (ends_whole after.ended after.left)
 
 pub returns-in-Err-clause-keys : goal.returns-in-Err-clause-keys

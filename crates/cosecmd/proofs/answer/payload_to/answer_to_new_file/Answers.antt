@@ -1,13 +1,13 @@
 use Rattle.std.proofs.Common.{None, ap, sym, ◌∙◌}
 use Rattle.cosecmd.specs.Printed.{verified_under}
-use Rattle.cosecmd.specs.Under.{job_under}
+use Rattle.cosecmd.specs.Under.{under_of}
 use Rattle.cosecmd.proofs.KeptPayloads.{differs_from_fault, is_done, is_refused, kept_as, payload_kept, removed_again, settled_by, settled_in_end, where_done, where_refused}
 use Rattle.cosecmd.proofs.Replies.{ends_so, is_fault}
 use Rattle.cosecmd.proofs.answer.payload_to.answer_to_new_file.Goals as goal
 
 pub returns-clause-printed : goal.returns-clause-printed
 returns-clause-printed g c = λ bytes e well.
-    let said = verified_under (job_under c.args.checks.now) None bytes in
+    let said = verified_under (under_of c.args.checks.now) None bytes in
     rw c.code.ensures (ends_so _ _ said c.print_reply-status.result
     (c.print_reply-status.ensures.prints said (c.settle_reply-reply.ensures.same said (c.reply_written-written.ensures.says bytes e))) (rw (← c.code.ensures) well))
 

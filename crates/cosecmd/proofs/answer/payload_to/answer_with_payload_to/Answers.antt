@@ -1,5 +1,6 @@
-use Rattle.std.proofs.Common.{◌≡◌, false, inr, true}
-use Rattle.cosecmd.proofs.KeptPayloads.{holds_payload, none_made, stands, stands_removed, taken_before}
+use Rattle.std.proofs.Common.{◌≡◌, ◌∙◌, ap, false, inr, refl, true}
+use Rattle.cosecmd.specs.Printed.{code_of}
+use Rattle.cosecmd.proofs.KeptPayloads.{file_line, holds_payload, none_made, stands, stands_removed, taken_before}
 use Rattle.cosecmd.proofs.Replies.{line_fails}
 use Rattle.cosecmd.proofs.answer.payload_to.answer_with_payload_to.Goals as goal
 
@@ -37,3 +38,7 @@ returns-clause-taken g c = λ taken.
     let made = g.N.NewFiles.made in
     let no : false ≡ true = c.in-Ok.ensures.taken (taken_before (made c.new_file.new.files) (made c.answer_to_new_file.new.files) c.answer_to_new_file.ensures.settled taken) in
     absurd cc
+
+pub returns-in-Err-clause-unmade : goal.returns-in-Err-clause-unmade
+returns-in-Err-clause-unmade g c = λ same.
+    (c.code.ensures ∙ ap code_of c.print_fault.ensures.status, refl, file_line _ _ c.in-Err.fault c.in-Err.ensures.fault c.print_fault.ensures.line)

@@ -7,3 +7,6 @@ returns-clause-payload g c = λ bytes e.
     lent_reply c.reply_in_room-reply.result _ _ (g.N.Write.contents c.args.file.now) (g.N.Write.contents c.into_writer-writer.result.now) _ _
     _ c.into_writer-writer.result.ghost_name (c.reply_in_room-reply.ensures.payload bytes (c.new-intake.ensures.known ∙ e)) c.new-sink.ensures.contents
     c.into_writer-writer.ensures.contents (λ same. search rules)
+
+pub returns-clause-says : goal.returns-clause-says
+returns-clause-says g c = λ bytes e. c.reply_in_room-reply.ensures.says bytes (c.new-intake.ensures.known ∙ e)

@@ -1,7 +1,7 @@
 use Rattle.cosecmd.specs.declared.fault.Fault.TheVariants as faults
-use Rattle.cosecmd.specs.Sequence.{admitted_each}
+use Rattle.cosecmd.specs.Arguments.{admitted_each_for}
 use Rattle.cosecmd.proofs.AskedSequences.{line_alone}
 use Rattle.cosecmd.proofs.answer.sequence.tokens.print_small.Goals as goal
 
 pub returns-in-Err-clause-fails : goal.returns-in-Err-clause-fails
-returns-in-Err-clause-fails g c = λ bytes e two. line_alone (admitted_each c.args.job.now) bytes _ _ (faults.Keys c.in-Err.refusal) c.print_fault.ensures.line
+returns-in-Err-clause-fails g c = λ bytes e two. line_alone (admitted_each_for c.args.words.now) bytes _ _ (faults.Keys c.in-Err.refusal) c.print_fault.ensures.line
