@@ -9,10 +9,10 @@
  *   - A pointer to a struct isn't NULL, and leads to one that no other argument overlaps. What an argument is written to is not
  *     overlapped by any other argument.
  *   - Bytes don't change while a call reads them.
- *   - A block (of a verifier, a table or a maker) has the size and the alignment that its functions return, is begun once before
- *     anything else, and isn't copied. One call at a time uses it.
- *   - The keys and the external data of cose_open and cose_open_detached, and the keys of cose_table_read, stay as they are until the
- *     next such call of that block, or until its last use.
+ *   - A block (of a verifier, a table, a maker or a signer) has the size and the alignment that its functions return, is begun once
+ *     before anything else, and isn't copied. One call at a time uses it.
+ *   - The keys and the external data of cose_open and the other calls that open, and the keys of cose_table_read, stay as they are until
+ *     the next such call of that block, or until its last use.
  *   - A payload isn't used before its message is authentic.
  *
  * Every place is the number of bytes before a byte: of the message, of the key set, or, of claims, of the payload. Every range (.._at,
@@ -181,6 +181,39 @@ struct cose_signature_input {
     uint8_t signature[132];  /**< the integers r and s, in this order (RFC 9053 section 2.1) */
 };
 
+/** What precedes the payload in the structure that is authenticated (RFC 9052 sections 4.4 and 6.3), in six pieces: cose_front_piece gives
+ * each. The third and the fifth aren't in the struct. */
+struct cose_pieces {
+    uint64_t protected_length; /**< how many bytes the third piece has, the content of the protected header as received */
+    uint8_t context_length, protected_head_length, aad_head_length, payload_head_length;
+    uint8_t context[12];       /**< the first piece: the head of the array, and the context */
+    uint8_t protected_head[9]; /**< the second piece: the protected header's head */
+    uint8_t aad_head[9];       /**< the fourth piece: the external data's head; the external data is the fifth */
+    uint8_t payload_head[9];   /**< the sixth piece: the payload's head */
+};
+
+/** The key that was chosen for a message. Its pointers lead into the caller's key set. */
+struct cose_chosen_key {
+    int32_t alg;             /**< the algorithm that it is used with (RFC 9053 sections 2.1 and 3.1) */
+    uint8_t crv;             /**< the curve (RFC 9053 section 7.1): 1 P-256, 2 P-384, 3 P-521; 0 of a symmetric key */
+    uint8_t y_sign;          /**< 0: y has its bytes. 1, 2: y is even, odd, and y_length is 0 */
+    uint8_t has_kid;         /**< 1 where the key has an identifier */
+    COSE_SLOT_(const uint8_t *kid); /**< the identifier */
+    uint64_t kid_length;
+    COSE_SLOT_(const uint8_t *k); /**< the bytes of a symmetric key, or whatever handle stands in their place */
+    uint64_t k_length;
+    COSE_SLOT_(const uint8_t *x); /**< the coordinates of a point */
+    uint64_t x_length;
+    COSE_SLOT_(const uint8_t *y);
+    uint64_t y_length;
+};
+
+/** The signature of a message, as it was received. */
+struct cose_received_signature {
+    uint64_t length;
+    uint8_t signature[132];  /**< of ECDSA the integers r and s, in this order (RFC 9053 section 2.1) */
+};
+
 /** The shape of a message: of COSE_COMPLETE its kind and the numbers of bytes; of COSE_REFUSED the reason and the place. */
 struct cose_message_shape {
     uint8_t status, reason, kind;
@@ -306,6 +339,25 @@ struct cose_item {
     uint8_t major;           /**< enum cose_major */
 };
 
+/** Why a key isn't the one that a message is verified with (RFC 9052 section 7.1): the first condition that it fails, in this order. */
+enum cose_mismatch_number {
+    COSE_FITS = 0,
+    COSE_OTHER_ALGORITHM = 1,  /**< the algorithm isn't one for messages of the kind, or isn't the key's own */
+    COSE_OTHER_KEY_TYPE = 2,   /**< the algorithm takes a secret and the key is a point, or the other way round */
+    COSE_OTHER_CURVE = 3,      /**< the point isn't on the algorithm's curve */
+    COSE_OTHER_OPERATION = 4,  /**< the key lists operations, and not the one that verifies the message */
+    COSE_OTHER_IDENTIFIER = 5, /**< message and key have an identifier each, and these differ */
+    COSE_NOT_PERMITTED = 6     /**< the terms don't permit the key */
+};
+
+/** Whether a key fits a message: of COSE_COMPLETE the condition that it fails. COSE_KEYS_REFUSED: the key set, or this key, is refused.
+ * COSE_REFUSED, COSE_MORE: the message is refused, or isn't whole. COSE_BAD_ARGUMENT: no item is at the place, or the kind isn't stated. */
+struct cose_key_fit {
+    uint8_t status, reason;
+    uint8_t condition;       /**< enum cose_mismatch_number */
+    uint64_t place;          /**< the place of a refusal */
+};
+
 /** A date, in seconds since 1970: number, or -1 - number where negative is 1. Where present is 0 there is none. */
 struct cose_date {
     uint64_t number;
@@ -354,7 +406,13 @@ struct cose_maker {
     COSE_SLOT_(uint8_t *at);
 };
 
-/** What was made: COSE_MORE after cose_make, COSE_COMPLETE after cose_make_end, with the number of bytes written; or why nothing was. */
+/** A COSE_Sign1 that is being made, in a block of the caller's memory. */
+struct cose_signer {
+    COSE_SLOT_(uint8_t *at);
+};
+
+/** What was made: COSE_MORE after cose_make, COSE_COMPLETE after cose_make_end, with the number of bytes written; or why nothing was.
+ * Of a COSE_Sign1 the same, and COSE_COMPLETE after cose_make_sign1_digest. */
 struct cose_made {
     uint8_t status, reason;
     uint64_t length;
@@ -366,12 +424,17 @@ COSE_ASSERT_(sizeof(struct cose_policy) == 32 && offsetof(struct cose_policy, au
 COSE_ASSERT_(sizeof(struct cose_range) == 24 && offsetof(struct cose_range, present) == 16, "struct cose_range");
 COSE_ASSERT_(sizeof(struct cose_date) == 16 && offsetof(struct cose_date, negative) == 9, "struct cose_date");
 COSE_ASSERT_(sizeof(struct cose_claims_set) == 264 && offsetof(struct cose_claims_set, cnf_y_sign) == 257, "struct cose_claims_set");
+COSE_ASSERT_(sizeof(struct cose_pieces) == 56 && offsetof(struct cose_pieces, payload_head) == 42, "struct cose_pieces");
+COSE_ASSERT_(sizeof(struct cose_chosen_key) == 72 && offsetof(struct cose_chosen_key, y_length) == 64, "struct cose_chosen_key");
+COSE_ASSERT_(sizeof(struct cose_received_signature) == 144 && offsetof(struct cose_received_signature, signature) == 8, "struct cose_received_signature");
 COSE_ASSERT_(sizeof(struct cose_large_verifier) == 8 && offsetof(struct cose_large_verifier, at) == 0, "struct cose_large_verifier");
 COSE_ASSERT_(sizeof(struct cose_maker) == 8 && offsetof(struct cose_maker, at) == 0, "struct cose_maker");
+COSE_ASSERT_(sizeof(struct cose_signer) == 8 && offsetof(struct cose_signer, at) == 0, "struct cose_signer");
 COSE_ASSERT_(sizeof(struct cose_table) == 8 && offsetof(struct cose_table, at) == 0, "struct cose_table");
 COSE_ASSERT_(sizeof(struct cose_verifier) == 8 && offsetof(struct cose_verifier, at) == 0, "struct cose_verifier");
 COSE_ASSERT_(sizeof(struct cose_signature_input) == 368 && offsetof(struct cose_signature_input, signature) == 236, "struct cose_signature_input");
 COSE_ASSERT_(sizeof(struct cose_item) == 40 && offsetof(struct cose_item, major) == 33, "struct cose_item");
+COSE_ASSERT_(sizeof(struct cose_key_fit) == 16 && offsetof(struct cose_key_fit, place) == 8, "struct cose_key_fit");
 COSE_ASSERT_(sizeof(struct cose_key_set) == 24 && offsetof(struct cose_key_set, usable) == 16, "struct cose_key_set");
 COSE_ASSERT_(sizeof(struct cose_made) == 16 && offsetof(struct cose_made, length) == 8, "struct cose_made");
 COSE_ASSERT_(sizeof(struct cose_status) == 16 && offsetof(struct cose_status, place) == 8, "struct cose_status");
@@ -416,9 +479,11 @@ static inline uint8_t *cose_room_(uint8_t *at)
 /* ---- Names, and what is compared once. */
 
 /** The version of the library: compare it with COSE_VERSION. */
+COSE_MUST_USE_
 uint32_t cose_version(void);
 
 /** The name of a reason in docs/REASONS.md; that of 0 is empty, and a number that is none has NULL. */
+COSE_MUST_USE_
 static inline const char *cose_reason_name(uint8_t reason)
 {
     static const char *const names[] = {
@@ -432,6 +497,7 @@ static inline const char *cose_reason_name(uint8_t reason)
 }
 
 /** The name of a status, as KeysRefused of COSE_KEYS_REFUSED; a number that is none has NULL. */
+COSE_MUST_USE_
 static inline const char *cose_status_name(uint8_t status)
 {
     static const char *const names[] = {
@@ -447,7 +513,8 @@ enum {
     COSE_VERIFIER_BLOCK = 4096,
     COSE_LARGE_VERIFIER_BLOCK = 135168,
     COSE_TABLE_BLOCK = 16384,
-    COSE_MAKER_BLOCK = 1024
+    COSE_MAKER_BLOCK = 1024,
+    COSE_SIGNER_BLOCK = 1024
 };
 
 /* ---- One call over memory. */
@@ -967,9 +1034,11 @@ static inline void cose_large_parameter_named(enum cose_kind_number kind, const 
 /* ---- A verifier in the caller's memory, which is fed. */
 
 /** How many bytes its block has. */
+COSE_MUST_USE_
 uint64_t cose_verifier_size(void);
 
 /** What the address of its block is a multiple of. */
+COSE_MUST_USE_
 uint64_t cose_verifier_align(void);
 
 /** Makes the block a verifier without keys. Once, before anything else. */
@@ -1018,9 +1087,11 @@ static inline void cose_feed(struct cose_verifier *verifier, const uint8_t *piec
 }
 
 /** How many bytes of the message are to come for certain. */
+COSE_MUST_USE_
 uint64_t cose_wanted(struct cose_verifier *verifier);
 
 /** How many bytes of a detached payload are wanted. */
+COSE_MUST_USE_
 uint64_t cose_payload_wanted(struct cose_verifier *verifier);
 
 COSE_MUST_USE_
@@ -1048,6 +1119,7 @@ uint8_t cose_sign_input(struct cose_verifier *verifier, struct cose_signature_in
 void cose_verdict(struct cose_verifier *verifier, int32_t signature_is_good, struct cose_message_verdict *verdict);
 
 /** The number of the message: opening and resetting begin another one. */
+COSE_MUST_USE_
 uint64_t cose_message_number(struct cose_verifier *verifier);
 
 /** The verdict on the message of this number, as cose_verdict gives it: 1 is of the signature of this message alone. Where the verifier has
@@ -1058,9 +1130,11 @@ void cose_verdict_for(struct cose_verifier *verifier, uint64_t message, int32_t 
 void cose_reset(struct cose_verifier *verifier);
 
 /** How many bytes of the message were taken. */
+COSE_MUST_USE_
 uint64_t cose_taken(struct cose_verifier *verifier);
 
 /** How many bytes of it are held, and 256 for the running hash. */
+COSE_MUST_USE_
 uint64_t cose_held(struct cose_verifier *verifier);
 
 void cose_edge_header(struct cose_verifier *verifier, uint32_t is_protected, int64_t label, uint8_t *into, uint64_t into_room,
@@ -1126,9 +1200,11 @@ static inline int cose_needs_sha512(struct cose_verifier *verifier)
 /* ---- The same for headers of 65,535 bytes that nest 16 deep. */
 
 /** How many bytes its block has. */
+COSE_MUST_USE_
 uint64_t cose_large_verifier_size(void);
 
 /** What the address of its block is a multiple of. */
+COSE_MUST_USE_
 uint64_t cose_large_verifier_align(void);
 
 /** Makes the block a verifier without keys. Once, before anything else. */
@@ -1177,9 +1253,11 @@ static inline void cose_large_feed(struct cose_large_verifier *verifier, const u
 }
 
 /** How many bytes of the message are to come for certain. */
+COSE_MUST_USE_
 uint64_t cose_large_wanted(struct cose_large_verifier *verifier);
 
 /** How many bytes of a detached payload are wanted. */
+COSE_MUST_USE_
 uint64_t cose_large_payload_wanted(struct cose_large_verifier *verifier);
 
 COSE_MUST_USE_
@@ -1207,6 +1285,7 @@ uint8_t cose_large_sign_input(struct cose_large_verifier *verifier, struct cose_
 void cose_large_verdict(struct cose_large_verifier *verifier, int32_t signature_is_good, struct cose_message_verdict *verdict);
 
 /** The number of the message: opening and resetting begin another one. */
+COSE_MUST_USE_
 uint64_t cose_large_message_number(struct cose_large_verifier *verifier);
 
 /** The verdict on the message of this number, as cose_large_verdict gives it: 1 is of the signature of this message alone. Where the verifier has
@@ -1218,9 +1297,11 @@ void cose_large_verdict_for(struct cose_large_verifier *verifier, uint64_t messa
 void cose_large_reset(struct cose_large_verifier *verifier);
 
 /** How many bytes of the message were taken. */
+COSE_MUST_USE_
 uint64_t cose_large_taken(struct cose_large_verifier *verifier);
 
 /** How many bytes of it are held, and 256 for the running hash. */
+COSE_MUST_USE_
 uint64_t cose_large_held(struct cose_large_verifier *verifier);
 
 void cose_edge_large_header(struct cose_large_verifier *verifier, uint32_t is_protected, int64_t label, uint8_t *into, uint64_t into_room,
@@ -1253,12 +1334,233 @@ static inline void cose_large_header_named(struct cose_large_verifier *verifier,
     cose_edge_large_header_named(verifier, is_protected, cose_slice_(name), name_length, cose_room_(into), into_room, item);
 }
 
+/* ---- A verifier whose message the caller authenticates, since it has the hash or the key. */
+
+void cose_edge_open_elsewhere(struct cose_verifier *verifier, const uint8_t *keys, uint64_t keys_length, const uint8_t *aad,
+    uint64_t aad_length, uint8_t kind, struct cose_status *status);
+
+/** Opens a block as cose_open does, for messages that the caller authenticates: nothing is hashed, and nothing compared but the MAC that the
+ * caller states. The kid, the algorithm and the type of each key are read as ever, but the bytes of a symmetric key are given back and not
+ * used: they may be any handle, as the number of a slot. cose_feed, cose_feed_payload and cose_end are as they were; cose_sign_input
+ * returns 0, and cose_verdict answers the block's status and no verdict. */
+static inline void cose_open_elsewhere(struct cose_verifier *verifier, const uint8_t *keys, size_t keys_length, const uint8_t *aad,
+    size_t aad_length, enum cose_kind_number kind, struct cose_status *status)
+{
+    if (cose_is_null_(keys, keys_length) || cose_is_null_(aad, aad_length)) {
+        cose_edge_open_elsewhere(verifier, cose_slice_(NULL), 0, cose_slice_(NULL), 0, COSE_NO_KIND_, status);
+        return;
+    }
+    cose_edge_open_elsewhere(verifier, cose_slice_(keys), keys_length, cose_slice_(aad), aad_length, cose_kind_(kind), status);
+}
+
+void cose_edge_open_elsewhere_detached(struct cose_verifier *verifier, const uint8_t *keys, uint64_t keys_length, const uint8_t *aad,
+    uint64_t aad_length, uint8_t kind, uint64_t payload_length, struct cose_status *status);
+
+/** The same for messages whose payload is detached, and has so many bytes: hash what cose_feed_payload takes. */
+static inline void cose_open_elsewhere_detached(struct cose_verifier *verifier, const uint8_t *keys, size_t keys_length,
+    const uint8_t *aad, size_t aad_length, enum cose_kind_number kind, uint64_t payload_length, struct cose_status *status)
+{
+    if (cose_is_null_(keys, keys_length) || cose_is_null_(aad, aad_length)) {
+        cose_edge_open_elsewhere_detached(verifier, cose_slice_(NULL), 0, cose_slice_(NULL), 0, COSE_NO_KIND_, 0, status);
+        return;
+    }
+    cose_edge_open_elsewhere_detached(verifier, cose_slice_(keys), keys_length, cose_slice_(aad), aad_length, cose_kind_(kind),
+        payload_length, status);
+}
+
+COSE_MUST_USE_
+uint8_t cose_edge_front_pieces(struct cose_verifier *verifier, uint8_t *header, uint64_t header_room, struct cose_pieces *pieces);
+
+/** What is hashed before the payload, and 1: once the payload's head was read, and until the verdict. Otherwise 0, and nothing changes. The
+ * third piece, the content of the protected header, is copied to header, as many bytes as there is room for: 1,024 are always
+ * enough. cose_front_piece gives the pieces in their order. */
+COSE_MUST_USE_
+static inline uint8_t cose_front_pieces(struct cose_verifier *verifier, uint8_t *header, size_t header_room, struct cose_pieces *pieces)
+{
+    if (cose_is_null_(header, header_room)) {
+        return 0;
+    }
+    return cose_edge_front_pieces(verifier, cose_room_(header), header_room, pieces);
+}
+
+/** The number of pieces before the payload. */
+enum { COSE_FRONT_PIECES = 6 };
+
+/** The piece of this number, from 0 to 5, with its length, of what cose_front_pieces gave: header and aad are the bytes of the third and the
+ * fifth, which the caller has. Any other number has no bytes. */
+static inline const uint8_t *cose_front_piece(const struct cose_pieces *pieces, const uint8_t *header, const uint8_t *aad,
+    size_t aad_length, unsigned index, size_t *length)
+{
+    switch (index) {
+    case 0:
+        *length = pieces->context_length;
+        return pieces->context;
+    case 1:
+        *length = pieces->protected_head_length;
+        return pieces->protected_head;
+    case 2:
+        *length = (size_t)pieces->protected_length;
+        return cose_slice_(header);
+    case 3:
+        *length = pieces->aad_head_length;
+        return pieces->aad_head;
+    case 4:
+        *length = aad_length;
+        return cose_slice_(aad);
+    case 5:
+        *length = pieces->payload_head_length;
+        return pieces->payload_head;
+    default:
+        *length = 0;
+        return cose_slice_(NULL);
+    }
+}
+
+COSE_MUST_USE_
+uint8_t cose_edge_asked_key(struct cose_verifier *verifier, struct cose_chosen_key *asked);
+
+/** The key that the message is authenticated with, and 1: once the payload's head was read, and until the verdict. Otherwise 0, and asked has
+ * no key. Its pointers lead into the key set that the block was opened with. */
+COSE_MUST_USE_
+static inline uint8_t cose_asked_key(struct cose_verifier *verifier, struct cose_chosen_key *asked)
+{
+    asked->kid = cose_slice_(NULL);
+    asked->kid_length = 0;
+    asked->k = cose_slice_(NULL);
+    asked->k_length = 0;
+    asked->x = cose_slice_(NULL);
+    asked->x_length = 0;
+    asked->y = cose_slice_(NULL);
+    asked->y_length = 0;
+    return cose_edge_asked_key(verifier, asked);
+}
+
+/** The signature of a COSE_Sign1 as it was received, and 1: once all bytes are there, and until the verdict. Otherwise 0, and nothing
+ * changes. The tag of a COSE_Mac0 is given to no one. */
+COSE_MUST_USE_
+uint8_t cose_asked_signature(struct cose_verifier *verifier, struct cose_received_signature *signature);
+
+void cose_edge_verdict_of_mac(struct cose_verifier *verifier, const uint8_t *mac, uint64_t mac_length,
+    struct cose_message_verdict *verdict);
+
+/** The verdict on a COSE_Mac0 that is complete: its tag is compared with this MAC, in steps that don't depend on where they differ. What you
+ * owe: it is the MAC of the whole structure, which is the pieces in their order, then the payload as it came, and nothing after, under the
+ * key and by the algorithm of cose_asked_key; of HMAC 256/64 the first 8 bytes. Before the message is complete the verdict is the
+ * block's status. It is COSE_BAD_ARGUMENT where no such MAC is asked for: of a COSE_Sign1, of another length, none at all, once a verdict was
+ * given, and of a block that cose_open opened. Then nothing changes. The first verdict stands until the block is reset or opened: a second
+ * MAC is COSE_BAD_ARGUMENT. */
+static inline void cose_verdict_of_mac(struct cose_verifier *verifier, const uint8_t *mac, size_t mac_length,
+    struct cose_message_verdict *verdict)
+{
+    if (cose_is_null_(mac, mac_length)) {
+        memset(verdict, 0, sizeof *verdict);
+        verdict->status = COSE_BAD_ARGUMENT;
+        return;
+    }
+    cose_edge_verdict_of_mac(verifier, cose_slice_(mac), mac_length, verdict);
+}
+
+/** The verdict on the COSE_Sign1 with this cose_message_number, about whose signature your verifier said 1, that it is good; any other number
+ * says that it isn't. What you owe: it is the signature of cose_asked_signature, of the pieces in their order, then the payload as it came,
+ * and nothing after, under the key and by the algorithm of cose_asked_key. Otherwise as cose_verdict_of_mac: a COSE_Mac0, a message of another
+ * number and a second answer are COSE_BAD_ARGUMENT. */
+void cose_verdict_of_answer(struct cose_verifier *verifier, uint64_t message, int32_t holds, struct cose_message_verdict *verdict);
+
+/* ---- The same for headers of 65,535 bytes that nest 16 deep. */
+
+void cose_edge_large_open_elsewhere(struct cose_large_verifier *verifier, const uint8_t *keys, uint64_t keys_length, const uint8_t *aad,
+    uint64_t aad_length, uint8_t kind, struct cose_status *status);
+
+/** As cose_open_elsewhere. */
+static inline void cose_large_open_elsewhere(struct cose_large_verifier *verifier, const uint8_t *keys, size_t keys_length,
+    const uint8_t *aad, size_t aad_length, enum cose_kind_number kind, struct cose_status *status)
+{
+    if (cose_is_null_(keys, keys_length) || cose_is_null_(aad, aad_length)) {
+        cose_edge_large_open_elsewhere(verifier, cose_slice_(NULL), 0, cose_slice_(NULL), 0, COSE_NO_KIND_, status);
+        return;
+    }
+    cose_edge_large_open_elsewhere(verifier, cose_slice_(keys), keys_length, cose_slice_(aad), aad_length, cose_kind_(kind), status);
+}
+
+void cose_edge_large_open_elsewhere_detached(struct cose_large_verifier *verifier, const uint8_t *keys, uint64_t keys_length,
+    const uint8_t *aad, uint64_t aad_length, uint8_t kind, uint64_t payload_length, struct cose_status *status);
+
+/** As cose_open_elsewhere_detached. */
+static inline void cose_large_open_elsewhere_detached(struct cose_large_verifier *verifier, const uint8_t *keys, size_t keys_length,
+    const uint8_t *aad, size_t aad_length, enum cose_kind_number kind, uint64_t payload_length, struct cose_status *status)
+{
+    if (cose_is_null_(keys, keys_length) || cose_is_null_(aad, aad_length)) {
+        cose_edge_large_open_elsewhere_detached(verifier, cose_slice_(NULL), 0, cose_slice_(NULL), 0, COSE_NO_KIND_, 0, status);
+        return;
+    }
+    cose_edge_large_open_elsewhere_detached(verifier, cose_slice_(keys), keys_length, cose_slice_(aad), aad_length, cose_kind_(kind),
+        payload_length, status);
+}
+
+COSE_MUST_USE_
+uint8_t cose_edge_large_front_pieces(struct cose_large_verifier *verifier, uint8_t *header, uint64_t header_room,
+    struct cose_pieces *pieces);
+
+/** Here 65,535 bytes are always enough for header. */
+COSE_MUST_USE_
+static inline uint8_t cose_large_front_pieces(struct cose_large_verifier *verifier, uint8_t *header, size_t header_room,
+    struct cose_pieces *pieces)
+{
+    if (cose_is_null_(header, header_room)) {
+        return 0;
+    }
+    return cose_edge_large_front_pieces(verifier, cose_room_(header), header_room, pieces);
+}
+
+COSE_MUST_USE_
+uint8_t cose_edge_large_asked_key(struct cose_large_verifier *verifier, struct cose_chosen_key *asked);
+
+/** As cose_asked_key. */
+COSE_MUST_USE_
+static inline uint8_t cose_large_asked_key(struct cose_large_verifier *verifier, struct cose_chosen_key *asked)
+{
+    asked->kid = cose_slice_(NULL);
+    asked->kid_length = 0;
+    asked->k = cose_slice_(NULL);
+    asked->k_length = 0;
+    asked->x = cose_slice_(NULL);
+    asked->x_length = 0;
+    asked->y = cose_slice_(NULL);
+    asked->y_length = 0;
+    return cose_edge_large_asked_key(verifier, asked);
+}
+
+/** As cose_asked_signature. */
+COSE_MUST_USE_
+uint8_t cose_large_asked_signature(struct cose_large_verifier *verifier, struct cose_received_signature *signature);
+
+void cose_edge_large_verdict_of_mac(struct cose_large_verifier *verifier, const uint8_t *mac, uint64_t mac_length,
+    struct cose_message_verdict *verdict);
+
+/** As cose_verdict_of_mac. */
+static inline void cose_large_verdict_of_mac(struct cose_large_verifier *verifier, const uint8_t *mac, size_t mac_length,
+    struct cose_message_verdict *verdict)
+{
+    if (cose_is_null_(mac, mac_length)) {
+        memset(verdict, 0, sizeof *verdict);
+        verdict->status = COSE_BAD_ARGUMENT;
+        return;
+    }
+    cose_edge_large_verdict_of_mac(verifier, cose_slice_(mac), mac_length, verdict);
+}
+
+/** As cose_verdict_of_answer. */
+void cose_large_verdict_of_answer(struct cose_large_verifier *verifier, uint64_t message, int32_t holds,
+    struct cose_message_verdict *verdict);
+
 /* ---- A table of keys in the caller's memory. */
 
 /** How many bytes its block has. */
+COSE_MUST_USE_
 uint64_t cose_table_size(void);
 
 /** What the address of its block is a multiple of. */
+COSE_MUST_USE_
 uint64_t cose_table_align(void);
 
 /** Makes the block a table without keys. Once, before anything else. */
@@ -1315,9 +1617,11 @@ static inline void cose_table_verify_cwt(struct cose_table *table, const uint8_t
 /* ---- Making a COSE_Mac0 (RFC 9052 section 6.2) over pieces: head, the pieces and tail are the message. */
 
 /** How many bytes its block has. */
+COSE_MUST_USE_
 uint64_t cose_maker_size(void);
 
 /** What the address of its block is a multiple of. */
+COSE_MUST_USE_
 uint64_t cose_maker_align(void);
 
 /** Makes the block a maker of nothing. Once, before anything else. */
@@ -1370,6 +1674,78 @@ static inline void cose_make_end(struct cose_maker *maker, uint8_t *tail, size_t
     cose_edge_make_end(maker, cose_room_(tail), tail_room, made);
 }
 
+/* ---- Making a COSE_Sign1 (RFC 9052 section 4.2) over pieces, with a signature of the caller's: head, the pieces and tail are the
+ * message. */
+
+/** How many bytes its block has. */
+COSE_MUST_USE_
+uint64_t cose_signer_size(void);
+
+/** What the address of its block is a multiple of. */
+COSE_MUST_USE_
+uint64_t cose_signer_align(void);
+
+/** Makes the block a signer of nothing. Once, before anything else. */
+void cose_signer_begin(uint8_t *block);
+
+void cose_edge_make_sign1(struct cose_signer *signer, int32_t alg, const uint8_t *kid, uint64_t kid_length, const uint8_t *aad,
+    uint64_t aad_length, uint64_t payload_length, uint8_t *head, uint64_t head_room, struct cose_made *made);
+
+/** Writes what precedes the payload into head, at most 322 bytes. alg is an algorithm of signatures (RFC 9053 table 1, RFC 9864). */
+static inline void cose_make_sign1(struct cose_signer *signer, int32_t alg, const uint8_t *kid, size_t kid_length, const uint8_t *aad,
+    size_t aad_length, uint64_t payload_length, uint8_t *head, size_t head_room, struct cose_made *made)
+{
+    if (cose_is_null_(kid, kid_length) || cose_is_null_(aad, aad_length) || cose_is_null_(head, head_room)) {
+        cose_edge_make_sign1(signer, COSE_NO_ALG_, cose_slice_(NULL), 0, cose_slice_(NULL), 0, 0, cose_room_(NULL), 0, made);
+        return;
+    }
+    cose_edge_make_sign1(signer, alg, cose_slice_(kid), kid_length, cose_slice_(aad), aad_length, payload_length, cose_room_(head),
+        head_room, made);
+}
+
+COSE_MUST_USE_
+uint64_t cose_edge_make_sign1_piece(struct cose_signer *signer, const uint8_t *piece, uint64_t piece_length);
+
+/** Hashes the next bytes of the payload, and returns how many it used. */
+COSE_MUST_USE_
+static inline uint64_t cose_make_sign1_piece(struct cose_signer *signer, const uint8_t *piece, size_t piece_length)
+{
+    if (cose_is_null_(piece, piece_length)) {
+        return 0;
+    }
+    return cose_edge_make_sign1_piece(signer, cose_slice_(piece), piece_length);
+}
+
+void cose_edge_make_sign1_digest(struct cose_signer *signer, uint8_t *digest, uint64_t digest_room, struct cose_made *made);
+
+/** Once the payload is whole, writes the digest of the Sig_structure (RFC 9052 section 4.4) into digest, at most 64 bytes. It may be asked
+ * for again. */
+static inline void cose_make_sign1_digest(struct cose_signer *signer, uint8_t *digest, size_t digest_room, struct cose_made *made)
+{
+    if (cose_is_null_(digest, digest_room)) {
+        memset(made, 0, sizeof *made);
+        made->status = COSE_BAD_ARGUMENT;
+        return;
+    }
+    cose_edge_make_sign1_digest(signer, cose_room_(digest), digest_room, made);
+}
+
+void cose_edge_make_sign1_end(struct cose_signer *signer, const uint8_t *signature, uint64_t signature_length, uint8_t *tail,
+    uint64_t tail_room, struct cose_made *made);
+
+/** Takes the signature of this digest, r and then s (RFC 9053 section 2.1), and writes what follows the payload into tail, at most 134
+ * bytes. The signature isn't verified; where it hasn't the algorithm's length (COSE_BAD_ARGUMENT), another may be given. */
+static inline void cose_make_sign1_end(struct cose_signer *signer, const uint8_t *signature, size_t signature_length, uint8_t *tail,
+    size_t tail_room, struct cose_made *made)
+{
+    if (cose_is_null_(signature, signature_length) || cose_is_null_(tail, tail_room)) {
+        memset(made, 0, sizeof *made);
+        made->status = COSE_BAD_ARGUMENT;
+        return;
+    }
+    cose_edge_make_sign1_end(signer, cose_slice_(signature), signature_length, cose_room_(tail), tail_room, made);
+}
+
 /* ---- Blocks of all kinds. */
 
 /** 1 where the library has this header's version, and its blocks fit into the bytes and the alignment above; otherwise 0. */
@@ -1380,43 +1756,95 @@ static inline int cose_fits(void)
         cose_verifier_size() <= COSE_VERIFIER_BLOCK && cose_verifier_align() <= COSE_BLOCK_ALIGN &&
         cose_large_verifier_size() <= COSE_LARGE_VERIFIER_BLOCK && cose_large_verifier_align() <= COSE_BLOCK_ALIGN &&
         cose_table_size() <= COSE_TABLE_BLOCK && cose_table_align() <= COSE_BLOCK_ALIGN &&
-        cose_maker_size() <= COSE_MAKER_BLOCK && cose_maker_align() <= COSE_BLOCK_ALIGN;
+        cose_maker_size() <= COSE_MAKER_BLOCK && cose_maker_align() <= COSE_BLOCK_ALIGN &&
+        cose_signer_size() <= COSE_SIGNER_BLOCK && cose_signer_align() <= COSE_BLOCK_ALIGN;
 }
 
-static inline void cose_overwrite_(uint8_t *block, uint64_t size)
+void cose_edge_wipe_bytes(uint8_t *bytes, uint64_t bytes_room);
+
+/** Overwrites bytes with zeros, as those of keys after use. It is proved of the library's function that each byte is 0 then. */
+static inline void cose_wipe_bytes(uint8_t *bytes, size_t bytes_room)
 {
-    volatile uint8_t *at = block;
-    while (size > 0)
-        at[--size] = 0;
+    if (cose_is_null_(bytes, bytes_room)) {
+        return;
+    }
+    cose_edge_wipe_bytes(cose_room_(bytes), bytes_room);
 }
 
-/** Overwrites the block, with all that was derived from keys, and begins it again: it has no keys then. What calls left on the stack
- * isn't overwritten. */
+/** Overwrites the block, with all that was derived from keys, and begins it again: it is as one that was never opened then. What calls
+ * left on the stack or in registers isn't overwritten. */
 static inline void cose_wipe(struct cose_verifier *verifier)
 {
-    cose_overwrite_(verifier->at, cose_verifier_size());
+    cose_edge_wipe_bytes(verifier->at, cose_verifier_size());
     cose_begin(verifier->at);
 }
 
 /** The same of a large one, */
 static inline void cose_large_wipe(struct cose_large_verifier *verifier)
 {
-    cose_overwrite_(verifier->at, cose_large_verifier_size());
+    cose_edge_wipe_bytes(verifier->at, cose_large_verifier_size());
     cose_large_begin(verifier->at);
 }
 
 /** of a table, */
 static inline void cose_table_wipe(struct cose_table *table)
 {
-    cose_overwrite_(table->at, cose_table_size());
+    cose_edge_wipe_bytes(table->at, cose_table_size());
     cose_table_begin(table->at);
 }
 
-/** and of a maker. */
+/** of a maker, */
 static inline void cose_maker_wipe(struct cose_maker *maker)
 {
-    cose_overwrite_(maker->at, cose_maker_size());
+    cose_edge_wipe_bytes(maker->at, cose_maker_size());
     cose_maker_begin(maker->at);
+}
+
+/** and of a signer. */
+static inline void cose_signer_wipe(struct cose_signer *signer)
+{
+    cose_edge_wipe_bytes(signer->at, cose_signer_size());
+    cose_signer_begin(signer->at);
+}
+
+void cose_edge_key_of(const struct cose_terms *terms, const uint8_t *message, uint64_t message_length, struct cose_item *key);
+
+/** Which key of the terms' key set a message is verified with: the item of the set that the key is, where one is chosen. The kind of the
+ * terms is that of the message, 17 or 18, as its verdict has it. No item where the message isn't whole, is refused, or no key fits it;
+ * where several do, no message is verified with them, and this is the first. */
+static inline void cose_key_of(const struct cose_terms *terms, const uint8_t *message, size_t message_length, struct cose_item *key)
+{
+    struct cose_terms cose_terms_ = *terms;
+    if (cose_is_null_(terms->keys, terms->keys_length) ||
+        cose_is_null_(terms->aad, terms->aad_length) ||
+        cose_is_null_(message, message_length)) {
+        memset(key, 0, sizeof *key);
+        return;
+    }
+    cose_terms_.keys = cose_slice_(terms->keys);
+    cose_terms_.aad = cose_slice_(terms->aad);
+    cose_edge_key_of(&cose_terms_, cose_slice_(message), message_length, key);
+}
+
+void cose_edge_mismatch(const struct cose_terms *terms, const uint8_t *message, uint64_t message_length, uint64_t place,
+    struct cose_key_fit *fit);
+
+/** Why the key of the terms' key set that is the item at this place isn't the one that a message is verified with: the first condition
+ * that it fails. The kind of the terms is that of the message, 17 or 18. */
+static inline void cose_mismatch(const struct cose_terms *terms, const uint8_t *message, size_t message_length, uint64_t place,
+    struct cose_key_fit *fit)
+{
+    struct cose_terms cose_terms_ = *terms;
+    if (cose_is_null_(terms->keys, terms->keys_length) ||
+        cose_is_null_(terms->aad, terms->aad_length) ||
+        cose_is_null_(message, message_length)) {
+        memset(fit, 0, sizeof *fit);
+        fit->status = COSE_BAD_ARGUMENT;
+        return;
+    }
+    cose_terms_.keys = cose_slice_(terms->keys);
+    cose_terms_.aad = cose_slice_(terms->aad);
+    cose_edge_mismatch(&cose_terms_, cose_slice_(message), message_length, place, fit);
 }
 
 #ifdef __cplusplus

@@ -60,7 +60,7 @@ from_label : (b : ℤ → Bool) (k : KeyValue) (label : Option LabelValue) (foun
 from_label b k (Some alg) found e = from_number b k (integer_in_label alg) found e
 from_label b k None found e = absurd cc
 
-fitting_itself : (q : Question) (k : KeyValue) (found : KeyValue × ℤ) → fitting q k ≡ Some found → found.0 ≡ k
+pub fitting_itself : (q : Question) (k : KeyValue) (found : KeyValue × ℤ) → fitting q k ≡ Some found → found.0 ≡ k
 fitting_itself q k found e = from_label (fits q k) k (algorithm_used q.protected_alg q.unprotected_alg k.alg) found e
 
 -- The one that is found among one key is this key.

@@ -1,4 +1,5 @@
 pub mod Admitting
+pub mod Asked
 pub mod Choices
 pub mod ClaimsForC
 pub mod Copies
@@ -6,12 +7,14 @@ pub mod Dates
 pub mod Imports
 pub mod Items
 pub mod KeySets
+pub mod KeysChosen
 pub mod Labels
 pub mod Limits
 pub mod Members
 pub mod Messages
 pub mod Parts
 pub mod Requiring
+pub mod Signers
 pub mod Sizes
 pub mod Streams
 pub mod Strings

@@ -12,6 +12,10 @@ use Rattle.cose_c.specs.declared.held.maker.CoseMaker.{CoseMaker}
 use Rattle.cose_c.specs.declared.held.maker.HeldMaker.{HeldMaker}
 use Rattle.cose_c.specs.contracts.held.maker.CoseMaker.{the_row as maker_handle}
 use Rattle.cose_c.specs.contracts.held.maker.HeldMaker.{the_row as held_maker}
+use Rattle.cose_c.specs.declared.held.signer.CoseSigner.{CoseSigner}
+use Rattle.cose_c.specs.declared.held.signer.HeldSigner.{HeldSigner}
+use Rattle.cose_c.specs.contracts.held.signer.CoseSigner.{the_row as signer_handle}
+use Rattle.cose_c.specs.contracts.held.signer.HeldSigner.{the_row as held_signer}
 use Rattle.cose_c.specs.declared.held.table.CoseTable.{CoseTable}
 use Rattle.cose_c.specs.declared.held.table.HeldTable.{HeldTable}
 use Rattle.cose_c.specs.contracts.held.table.CoseTable.{the_row as table_handle}
@@ -42,3 +46,9 @@ with_maker handle held = record handle { value = held }
 
 abbrev pub LendsMaker : MutBor CoseMaker → MutBor HeldMaker → Fml
 LendsMaker handle held = Lends maker_handle held_maker handle held (with_maker handle.now)
+
+abbrev pub with_signer : CoseSigner → HeldSigner → CoseSigner
+with_signer handle held = record handle { value = held }
+
+abbrev pub LendsSigner : MutBor CoseSigner → MutBor HeldSigner → Fml
+LendsSigner handle held = Lends signer_handle held_signer handle held (with_signer handle.now)

@@ -6,14 +6,17 @@ pub mod Terms
 pub mod Input
 pub mod Held
 pub mod Stream
+pub mod Elsewhere
 pub mod Message
 pub mod Required
 pub mod Shape
 pub mod Stated
 pub mod KeySet
+pub mod KeyChoice
 pub mod CoseClaims
 pub mod Claims
 pub mod Item
 pub mod Parameter
 pub mod Table
 pub mod Make
+pub mod Sign

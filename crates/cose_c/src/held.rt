@@ -6,5 +6,6 @@
 
 pub(crate) mod large_verifier;
 pub(crate) mod maker;
+pub(crate) mod signer;
 pub(crate) mod table;
 pub(crate) mod verifier;

@@ -44,7 +44,7 @@ pub(crate) fn copy(from: &[u8], into: &mut [u8]) -> u64
 }
 
 /// Copies all bytes, for which there is room, and returns how many there are.
-fn copy_all(from: &[u8], into: &mut [u8]) -> u64
+pub(crate) fn copy_all(from: &[u8], into: &mut [u8]) -> u64
     requires { length from.now ≤ length into.old }
     ensures { GivesWhole from.now into.new result }
 {

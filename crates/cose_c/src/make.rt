@@ -40,7 +40,7 @@ pub struct CoseMade {
 }
 
 /// Nothing was made.
-fn not_made(status: u8, reason: u8) -> CoseMade
+pub(crate) fn not_made(status: u8, reason: u8) -> CoseMade
     ensures { result ≡ not_made status reason }
 {
     CoseMade {
@@ -59,7 +59,7 @@ fn mac_numbered(number: i32) -> Option<Alg>
 }
 
 /// The key identifier, if it has a byte.
-fn kid_given<'k>(kid: &'k [u8]) -> Option<&'k [u8]>
+pub(crate) fn kid_given<'k>(kid: &'k [u8]) -> Option<&'k [u8]>
     ensures { option_map contents result ≡ kid_given kid.entry.now }
 {
     if kid.is_empty() { None } else { Some(kid) }

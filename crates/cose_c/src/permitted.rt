@@ -116,7 +116,7 @@ impl Permission<'_> {
     }
 
     /// Whether a key is permitted.
-    fn permits(&self, key: &Key<'_>) -> bool
+    pub(crate) fn permits(&self, key: &Key<'_>) -> bool
         ensures { result ≡ spec.permits (permission_value self.entry.now) (key_value key.now) }
     {
         self.permits_algorithm(key) && self.permits_material(&key.material)

@@ -86,7 +86,7 @@ fn payload_limit(stated: u64) -> u64
 }
 
 /// Which keys the terms permit.
-fn permission<'t>(terms: &'t CoseTerms<'t>) -> Permission<'t>
+pub(crate) fn permission<'t>(terms: &'t CoseTerms<'t>) -> Permission<'t>
     ensures { permission_value result ≡ permission_stated terms.entry.now }
 {
     Permission {

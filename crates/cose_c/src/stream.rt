@@ -43,7 +43,7 @@ pub struct CoseFed {
 }
 
 /// The numbers of a status.
-fn status_numbers(status: Status) -> CoseStatus
+pub(crate) fn status_numbers(status: Status) -> CoseStatus
     ensures { result ≡ status_numbers status }
 {
     match status {
