@@ -120,7 +120,7 @@ func (o *Options) decided(answer *C.struct_sized_answer, keys, message, payload 
 func (o *Options) refuseSignature(keys, message, payload []byte) error {
 	refusing := *o
 	refusing.ECDSA = func(*SignInput) (bool, error) { return false, nil }
-	verifier, err := newVerifier(keys, &refusing, payload != nil, uint64(len(payload)))
+	verifier, err := newVerifier(keys, &refusing, false, payload != nil, uint64(len(payload)))
 	if err != nil {
 		return err
 	}

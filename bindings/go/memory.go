@@ -33,8 +33,8 @@ func release(memory []byte) {
 	if memory == nil {
 		return
 	}
-	for i := range memory {
-		memory[i] = 0
+	if bytes := bytesOf(memory); bytes.length > 0 {
+		C.cose_wipe_bytes((*C.uint8_t)(unsafe.Pointer(&memory[0])), bytes.length)
 	}
 	C.free(unsafe.Pointer(&memory[:1][0]))
 }

@@ -52,6 +52,9 @@ type group struct {
 	Iss, Sub, Aud *string
 	Lifetime, Age *string
 	WithoutExp    bool
+	Line          int
+	Protected     []int64
+	Unprotected   []int64
 	Place         uint64
 	Table         *int
 	Key           octets
@@ -226,7 +229,9 @@ func (r *row) runWhole(call func([]byte) (*cose.Message, error)) error {
 }
 
 // feed feeds a message in pieces, up to its payload where that is detached.
-func feed(v *cose.Verifier, message []byte, size int, came *bytes.Buffer) (used int, err error) {
+func feed(v interface {
+	Feed([]byte) (cose.Fed, error)
+}, message []byte, size int, came *bytes.Buffer) (used int, err error) {
 	for at := 0; at < len(message); at += size {
 		end := at + size
 		if end > len(message) {
@@ -313,6 +318,9 @@ func runMessage(g *group, r *row) error {
 			if err = g.runPieces(r, large, size); err != nil {
 				return err
 			}
+			if err = g.runElsewhere(r, nil, large, size); err != nil {
+				return err
+			}
 		}
 		if err = g.runReader(r, large); err != nil {
 			return err
@@ -377,6 +385,9 @@ func runDetached(g *group, r *row) error {
 	for _, large := range sizes {
 		for _, size := range cuts {
 			if err = g.runDetachedPieces(r, length, large, size, len(r.Message)); err != nil {
+				return err
+			}
+			if err = g.runElsewhere(r, &length, large, size); err != nil {
 				return err
 			}
 		}
@@ -638,101 +649,6 @@ func runClaims(g *group, r *row) (err error) {
 	return nil
 }
 
-// ---- tokens under terms and requirements
-
-func (g *group) terms(large bool) (*cose.Terms, error) {
-	terms := &cose.Terms{
-		Options:     cose.Options{AAD: g.AAD, Wanted: kinds[g.Wanted], Large: large},
-		Algorithms:  g.Algorithms,
-		LeastSecret: g.LeastSecret,
-		ShortMAC:    g.ShortMAC,
-		WithoutAlg:  g.WithoutAlg,
-	}
-	if g.PayloadLimit != nil {
-		terms.PayloadLimit = *g.PayloadLimit
-	}
-	for _, label := range g.Understood {
-		number, is := label.(float64)
-		if !is {
-			return nil, leftOut("a label that is a text is understood")
-		}
-		terms.Understood = append(terms.Understood, int64(number))
-	}
-	return terms, nil
-}
-
-// durationOf is a number of seconds.
-func durationOf(text *string) time.Duration {
-	if text == nil {
-		return 0
-	}
-	return time.Duration(number(*text).Int64()) * time.Second
-}
-
-func (g *group) requirements() *cose.Requirements {
-	requirements := &cose.Requirements{
-		CurrentTime: time.Unix(number(*g.Now).Int64(), 0),
-		Leeway:      time.Duration(g.Leeway) * time.Second,
-		Issuer:      g.Iss,
-		Subject:     g.Sub,
-		Audience:    g.Aud,
-		MaxLifetime: durationOf(g.Lifetime),
-		MaxAge:      durationOf(g.Age),
-		WithoutExp:  g.WithoutExp,
-	}
-	for _, name := range g.Present {
-		for claim := cose.ClaimIss; claim <= cose.ClaimCti; claim++ {
-			if cose.Requirement(claim).String() == name {
-				requirements.Present = append(requirements.Present, claim)
-			}
-		}
-	}
-	return requirements
-}
-
-// required is the answer for claims, or which requirement they don't meet.
-func required(claims *cose.Claims, err error) string {
-	var unmet *cose.Unmet
-	if errors.As(err, &unmet) {
-		return fmt.Sprintf("unmet %v %d", unmet.Requirement, unmet.Place)
-	}
-	return admitted(claims, err)
-}
-
-func runTerms(g *group, r *row) error {
-	wanted := r.Result.refusal(strings.ReplaceAll(r.Result.Verdict, " message", ""))
-	switch r.Result.Verdict {
-	case "admitted":
-		wanted = "claims " + wantedClaims(r.Result.Claims)
-	case "unmet":
-		name := r.Result.Claim
-		if name == "" {
-			name = strings.ToLower(r.Result.Requirement)
-		}
-		wanted = fmt.Sprintf("unmet %s %d", name, r.Result.Place)
-	}
-	for _, large := range []bool{false, true} {
-		terms, err := g.terms(large)
-		if err != nil {
-			return err
-		}
-		if err = differs("Admit", required(cose.Admit(g.Keys, r.Token, g.requirements(), terms)), wanted); err != nil {
-			return err
-		}
-		message, err := cose.Authenticate(g.Keys, r.Token, terms)
-		seen := ""
-		if err != nil {
-			seen = refusal(err)
-		} else {
-			seen = required(cose.AdmitClaims(message.Payload, g.requirements(), large))
-		}
-		if err = differs("Authenticate and AdmitClaims", seen, wanted); err != nil {
-			return err
-		}
-	}
-	return nil
-}
-
 // ---- keys
 
 // setReasons are what a set is refused for; a key in it that is refused for another reason isn't usable.
@@ -847,6 +763,7 @@ func TestRows(t *testing.T) {
 		{"tokens", runToken, 4},
 		{"claims", runClaims, 23},
 		{"terms", runTerms, 0},
+		{"checklist", runChecklist, 0},
 		{"keys", runKey, 2},
 		{"sets", runSet, 11},
 		{"made", runMade, 1},

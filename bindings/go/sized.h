@@ -208,6 +208,107 @@ static inline struct cose_message_verdict sized_verdict(bool large, uint8_t *blo
     return verdict;
 }
 
+static inline struct cose_status sized_open_elsewhere(bool large, uint8_t *block, struct sized_bytes keys, struct sized_bytes aad,
+    uint32_t kind)
+{
+    struct cose_status status = {0};
+    struct cose_verifier verifier = {block};
+    struct cose_large_verifier large_verifier = {block};
+    if (large)
+        cose_large_open_elsewhere(&large_verifier, keys.at, keys.length, aad.at, aad.length, (enum cose_kind_number)kind, &status);
+    else
+        cose_open_elsewhere(&verifier, keys.at, keys.length, aad.at, aad.length, (enum cose_kind_number)kind, &status);
+    return status;
+}
+
+static inline struct cose_status sized_open_elsewhere_detached(bool large, uint8_t *block, struct sized_bytes keys, struct sized_bytes aad,
+    uint32_t kind, uint64_t payload_length)
+{
+    struct cose_status status = {0};
+    struct cose_verifier verifier = {block};
+    struct cose_large_verifier large_verifier = {block};
+    if (large)
+        cose_large_open_elsewhere_detached(&large_verifier, keys.at, keys.length, aad.at, aad.length, (enum cose_kind_number)kind,
+            payload_length, &status);
+    else
+        cose_open_elsewhere_detached(&verifier, keys.at, keys.length, aad.at, aad.length, (enum cose_kind_number)kind, payload_length,
+            &status);
+    return status;
+}
+
+/* The pieces before the payload, where they are known. */
+struct sized_front {
+    bool is_there;
+    struct cose_pieces pieces;
+};
+
+static inline struct sized_front sized_front_pieces(bool large, uint8_t *block, uint8_t *header, size_t room)
+{
+    struct sized_front front = {0};
+    struct cose_verifier verifier = {block};
+    struct cose_large_verifier large_verifier = {block};
+    front.is_there = (large ? cose_large_front_pieces(&large_verifier, header, room, &front.pieces)
+                            : cose_front_pieces(&verifier, header, room, &front.pieces)) == 1;
+    return front;
+}
+
+/* The key that was chosen, where it is known. */
+struct sized_asked {
+    bool is_there;
+    struct cose_chosen_key key;
+};
+
+static inline struct sized_asked sized_asked_key(bool large, uint8_t *block)
+{
+    struct sized_asked asked = {0};
+    struct cose_verifier verifier = {block};
+    struct cose_large_verifier large_verifier = {block};
+    asked.is_there = (large ? cose_large_asked_key(&large_verifier, &asked.key) : cose_asked_key(&verifier, &asked.key)) == 1;
+    return asked;
+}
+
+/* The signature that the caller's verifier decides on, where it is asked about, and the number of its message. */
+struct sized_signature {
+    bool is_there;
+    uint64_t message;
+    struct cose_received_signature signature;
+};
+
+static inline struct sized_signature sized_asked_signature(bool large, uint8_t *block)
+{
+    struct sized_signature asked = {0};
+    struct cose_verifier verifier = {block};
+    struct cose_large_verifier large_verifier = {block};
+    asked.message = large ? cose_large_message_number(&large_verifier) : cose_message_number(&verifier);
+    asked.is_there = (large ? cose_large_asked_signature(&large_verifier, &asked.signature)
+                            : cose_asked_signature(&verifier, &asked.signature)) == 1;
+    return asked;
+}
+
+static inline struct cose_message_verdict sized_verdict_of_mac(bool large, uint8_t *block, struct sized_bytes mac)
+{
+    struct cose_message_verdict verdict = {0};
+    struct cose_verifier verifier = {block};
+    struct cose_large_verifier large_verifier = {block};
+    if (large)
+        cose_large_verdict_of_mac(&large_verifier, mac.at, mac.length, &verdict);
+    else
+        cose_verdict_of_mac(&verifier, mac.at, mac.length, &verdict);
+    return verdict;
+}
+
+static inline struct cose_message_verdict sized_verdict_of_answer(bool large, uint8_t *block, uint64_t message, bool holds)
+{
+    struct cose_message_verdict verdict = {0};
+    struct cose_verifier verifier = {block};
+    struct cose_large_verifier large_verifier = {block};
+    if (large)
+        cose_large_verdict_of_answer(&large_verifier, message, holds, &verdict);
+    else
+        cose_verdict_of_answer(&verifier, message, holds, &verdict);
+    return verdict;
+}
+
 static inline struct cose_item sized_header(bool large, uint8_t *block, bool is_protected, int64_t label, uint8_t *into, size_t room)
 {
     struct cose_item item = {0};

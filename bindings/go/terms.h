@@ -101,4 +101,21 @@ static inline struct cose_claims_set sized_admit_claims(bool large, struct sized
     return claims;
 }
 
+static inline struct cose_item sized_key_of(struct sized_terms terms, struct sized_bytes keys, struct sized_bytes message)
+{
+    struct cose_item key = {0};
+    struct cose_terms given = sized_terms_of(terms, keys, (struct sized_bytes){0});
+    cose_key_of(&given, message.at, message.length, &key);
+    return key;
+}
+
+static inline struct cose_key_fit sized_mismatch(struct sized_terms terms, struct sized_bytes keys, struct sized_bytes message,
+    uint64_t place)
+{
+    struct cose_key_fit fit = {0};
+    struct cose_terms given = sized_terms_of(terms, keys, (struct sized_bytes){0});
+    cose_mismatch(&given, message.at, message.length, place, &fit);
+    return fit;
+}
+
 #endif

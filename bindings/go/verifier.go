@@ -66,16 +66,16 @@ type Verifier struct {
 
 // NewVerifier is a verifier of messages that have their payload.
 func NewVerifier(keys []byte, options *Options) (*Verifier, error) {
-	return newVerifier(keys, options, false, 0)
+	return newVerifier(keys, options, false, false, 0)
 }
 
 // NewDetachedVerifier is a verifier of messages whose payload is detached, and has so many bytes. Once Feed says PayloadNext,
 // FeedPayload takes it, and then Feed the rest of the message.
 func NewDetachedVerifier(keys []byte, payloadLength uint64, options *Options) (*Verifier, error) {
-	return newVerifier(keys, options, true, payloadLength)
+	return newVerifier(keys, options, false, true, payloadLength)
 }
 
-func newVerifier(keys []byte, options *Options, isDetached bool, payloadLength uint64) (*Verifier, error) {
+func newVerifier(keys []byte, options *Options, isElsewhere, isDetached bool, payloadLength uint64) (*Verifier, error) {
 	v := &Verifier{options: options.orDefault(), isDetached: isDetached}
 	v.large = C.bool(v.options.Large)
 	runtime.SetFinalizer(v, func(it *Verifier) { it.block.free() })
@@ -89,9 +89,14 @@ func newVerifier(keys []byte, options *Options, isDetached bool, payloadLength u
 	C.sized_begin(v.large, v.block.at)
 	wanted := C.uint32_t(v.options.Wanted)
 	var status C.struct_cose_status
-	if isDetached {
+	switch {
+	case isElsewhere && isDetached:
+		status = C.sized_open_elsewhere_detached(v.large, v.block.at, data, external, wanted, C.uint64_t(payloadLength))
+	case isElsewhere:
+		status = C.sized_open_elsewhere(v.large, v.block.at, data, external, wanted)
+	case isDetached:
 		status = C.sized_open_detached(v.large, v.block.at, data, external, wanted, C.uint64_t(payloadLength))
-	} else {
+	default:
 		status = C.sized_open(v.large, v.block.at, data, external, wanted)
 	}
 	// a refusal that is known now, of the length, is the message's: Feed and Verdict return it
@@ -182,7 +187,10 @@ func (v *Verifier) verdict() (*Verdict, error) {
 			return nil, err
 		}
 	}
-	found := C.sized_verdict(v.large, v.block.at, C.bool(good))
+	return verdictOf(C.sized_verdict(v.large, v.block.at, C.bool(good)))
+}
+
+func verdictOf(found C.struct_cose_message_verdict) (*Verdict, error) {
 	if found.status != C.COSE_AUTHENTIC {
 		return nil, errorOf(found.status, found.reason, found.place)
 	}

@@ -41,8 +41,19 @@ const FIELDS = Object.freeze({
         "cose_date nbf", "cose_date iat", "cose_range cnf_kid", "cose_range cnf_x", "cose_range cnf_y",
         "uint8_t cnf_crv", "uint8_t cnf_y_sign",
     ],
+    cose_pieces: [
+        "uint64_t protected_length", "uint8_t context_length", "uint8_t protected_head_length",
+        "uint8_t aad_head_length", "uint8_t payload_head_length", "uint8_t[12] context", "uint8_t[9] protected_head",
+        "uint8_t[9] aad_head", "uint8_t[9] payload_head",
+    ],
+    cose_chosen_key: [
+        "int32_t alg", "uint8_t crv", "uint8_t y_sign", "uint8_t has_kid", "pointer kid", "uint64_t kid_length",
+        "pointer k", "uint64_t k_length", "pointer x", "uint64_t x_length", "pointer y", "uint64_t y_length",
+    ],
+    cose_received_signature: ["uint64_t length", "uint8_t[132] signature"],
     cose_large_verifier: ["pointer at"],
     cose_maker: ["pointer at"],
+    cose_signer: ["pointer at"],
     cose_table: ["pointer at"],
     cose_verifier: ["pointer at"],
     cose_signature_input: [
@@ -52,6 +63,7 @@ const FIELDS = Object.freeze({
     cose_item: [
         "uint64_t at", "uint64_t length", "uint64_t content_at", "uint64_t number", "uint8_t present", "uint8_t major",
     ],
+    cose_key_fit: ["uint8_t status", "uint8_t reason", "uint8_t condition", "uint64_t place"],
     cose_key_set: ["uint8_t status", "uint8_t reason", "uint64_t place", "uint64_t usable"],
     cose_made: ["uint8_t status", "uint8_t reason", "uint64_t length"],
     cose_status: ["uint8_t status", "uint8_t reason", "uint64_t place"],
@@ -246,6 +258,7 @@ class Cose {
             else if (type === "uint8_t") found[field] = view.getUint8(place);
             else if (type === "int32_t") found[field] = view.getInt32(place, true);
             else if (type === "uint64_t") found[field] = exact(view.getBigUint64(place, true));
+            else if (type === "pointer") found[field] = Number(view.getBigUint64(place, true));
             else if (type.startsWith("uint8_t[")) found[field] = this.bytes(place, layoutOf(type).size);
         }
         return found;
@@ -513,6 +526,40 @@ class Cose {
     }
 
     /**
+     * Which key of a set a message is verified with, by `authenticate` under the same terms: where its item begins in the set, and its
+     * bytes. `wanted` of the terms is the kind of the message, 17 or 18. Nothing is authenticated: ask after the verdict.
+     * @param {Uint8Array} keys
+     * @param {Uint8Array} message
+     * @param {Terms} terms
+     * @returns {{place: number, item: Uint8Array} | undefined}
+     */
+    keyOf(keys, message, terms) {
+        return this.scoped((scope) => {
+            const at = scope.room(LAYOUTS.cose_item.size);
+            this.exports.cose_edge_key_of(STATED.terms(this, scope, keys, terms), ...scope.put(message), at);
+            const item = this.read(at, "cose_item");
+            return item.present ? { place: item.at, item: copyOf(keys, item.at, item.length) } : undefined;
+        });
+    }
+
+    /**
+     * Why the key of a set that is the item at this place isn't the one that a message is verified with: the number of the first
+     * condition that it fails, of MISMATCH, which is 0 where it fits. `wanted` of the terms is the kind of the message, 17 or 18.
+     * @param {Uint8Array} keys
+     * @param {Uint8Array} message
+     * @param {number | bigint} place
+     * @param {Terms} terms
+     * @returns {{status: number, reason: number, condition: number, place: number}}
+     */
+    mismatch(keys, message, place, terms) {
+        return this.scoped((scope) => {
+            const at = scope.room(LAYOUTS.cose_key_fit.size);
+            this.exports.cose_edge_mismatch(STATED.terms(this, scope, keys, terms), ...scope.put(message), BigInt(place), at);
+            return this.read(at, "cose_key_fit");
+        });
+    }
+
+    /**
      * The text string of this number, from 0, of the audience that a payload names.
      * @param {Uint8Array} payload
      * @param {number} index
@@ -592,11 +639,11 @@ const widthOf = (first) => ((first & 31) < 24 ? 0 : 2 ** ((first & 31) - 24));
  */
 const copyOf = (bytes, at, length) => new Uint8Array(bytes.subarray(at, at + length));
 
-/** A block of the module's memory, with the struct that leads to it. `close` gives both back. */
+/** A block of the module's memory, with the struct that leads to it. `close` overwrites the block and gives both back. */
 class Block {
     /**
      * @param {Cose} cose
-     * @param {string} name the middle of the names of its functions: `verifier`, `table` or `maker`
+     * @param {string} name the middle of the names of its functions: `verifier`, `table`, `maker` or `signer`
      * @param {string} begin
      */
     constructor(cose, name, begin) {
@@ -637,6 +684,8 @@ class Block {
         if (!this.isOpen) return;
         this.isOpen = false;
         this.release();
+        // what is derived from keys is as secret as they are
+        this.cose.exports.cose_edge_wipe_bytes(this.at, BigInt(this.size));
         this.cose.rooms.give(this.struct, 8);
         this.cose.rooms.give(this.at, this.size);
     }
@@ -813,6 +862,132 @@ class Verifier extends Block {
     }
 }
 
+/**
+ * The key that was chosen for a message: its material is `k`, or `crv`, `x` and `y`, or `ySign` (1 even, 2 odd).
+ * @typedef {{alg: number, kid?: Uint8Array, k?: Uint8Array, crv?: number, ySign?: number, x?: Uint8Array, y?: Uint8Array}} AskedKey
+ */
+
+/**
+ * A verifier of messages that the caller authenticates, since it has the hash or the key: nothing is hashed here, and the bytes of a
+ * symmetric key are given back and not used. Feed the message; from its payload's head on `front` has the pieces that are hashed before
+ * the payload, and `askedKey` the key. Then state what was found of the pieces, the payload, and nothing after.
+ */
+class Elsewhere extends Verifier {
+    /**
+     * @param {Cose} cose
+     * @param {{large?: boolean}} options
+     */
+    constructor(cose, options = {}) {
+        super(cose, options);
+        this.aad = NOTHING;
+        /**
+         * The number of the message whose signature was asked for: an answer is about no other.
+         * @type {bigint | undefined}
+         */
+        this.number = undefined;
+    }
+
+    /**
+     * As `Verifier.open`.
+     * @param {Uint8Array} keys
+     * @param {Options & {payloadLength?: number | bigint}} options
+     */
+    open(keys, options = {}) {
+        this.aad = options.aad ?? NOTHING;
+        return super.open(keys, options);
+    }
+
+    /**
+     * @param {string} name
+     * @param {boolean} [isEdge]
+     */
+    call(name, isEdge = false) {
+        return super.call(name.replace(/^open/, "open_elsewhere"), isEdge);
+    }
+
+    /**
+     * The six pieces before the payload, in their order: from its head on and until the verdict.
+     * @returns {Uint8Array[] | undefined}
+     */
+    front() {
+        return this.cose.scoped((scope) => {
+            const length = this.prefix ? 65_535 : 1_024;
+            const [at, room] = [scope.room(LAYOUTS.cose_pieces.size), scope.room(length)];
+            if (this.call("front_pieces", true)(this.handle, room, BigInt(length), at) !== 1) return undefined;
+            const all = this.cose.read(at, "cose_pieces");
+            /** @param {string} name */
+            const part = (name) => all[name].slice(0, all[`${name}_length`]);
+            const content = this.cose.bytes(room, all.protected_length);
+            return [part("context"), part("protected_head"), content, part("aad_head"), this.aad, part("payload_head")];
+        });
+    }
+
+    /**
+     * The key that was chosen: from the payload's head on and until the verdict.
+     * @returns {AskedKey | undefined}
+     */
+    askedKey() {
+        return this.cose.scoped((scope) => {
+            const at = scope.room(LAYOUTS.cose_chosen_key.size);
+            if (this.call("asked_key", true)(this.handle, at) !== 1) return undefined;
+            const all = this.cose.read(at, "cose_chosen_key");
+            /** @param {string} name */
+            const part = (name) => this.cose.bytes(all[name], all[`${name}_length`]);
+            const kid = all.has_kid === 1 ? part("kid") : undefined;
+            if (all.crv === 0) return { alg: all.alg, kid, k: part("k") };
+            return { alg: all.alg, kid, crv: all.crv, ySign: all.y_sign, x: part("x"), y: part("y") };
+        });
+    }
+
+    /**
+     * The signature of a complete COSE_Sign1, until the verdict.
+     * @returns {Uint8Array | undefined}
+     */
+    askedSignature() {
+        return this.cose.scoped((scope) => {
+            const at = scope.room(LAYOUTS.cose_received_signature.size);
+            this.number = this.call("message_number")(this.handle);
+            if (this.call("asked_signature")(this.handle, at) !== 1) return undefined;
+            const { length, signature } = this.cose.read(at, "cose_received_signature");
+            return signature.slice(0, length);
+        });
+    }
+
+    /**
+     * There is a verdict only by what is stated.
+     * @returns {never}
+     */
+    verdict() {
+        throw new Error("use verdictOfMac or verdictOfAnswer");
+    }
+
+    /**
+     * The verdict on a complete COSE_Mac0, whose tag is compared with this MAC. The first verdict stands until `reset`.
+     * @param {Uint8Array} mac
+     */
+    verdictOfMac(mac) {
+        return this.cose.scoped((scope) => {
+            const at = scope.room(LAYOUTS.cose_message_verdict.size);
+            this.call("verdict_of_mac", true)(this.handle, ...scope.put(mac), at);
+            return this.cose.readVerdict(at);
+        });
+    }
+
+    /**
+     * The verdict on a complete COSE_Sign1, whose `askedSignature` holds or doesn't. The first verdict stands until `reset`.
+     * @param {boolean} holds
+     */
+    verdictOfAnswer(holds) {
+        const { number } = this;
+        if (number === undefined) throw new Error("the signature wasn't asked for");
+        return this.cose.scoped((scope) => {
+            const at = scope.room(LAYOUTS.cose_message_verdict.size);
+            this.call("verdict_of_answer")(this.handle, number, holds === true ? 1 : 0, at);
+            return this.cose.readVerdict(at);
+        });
+    }
+}
+
 /** A COSE_Mac0 that is being made: `head`, the pieces of the payload and `end` are the message. */
 class Maker extends Block {
     /** @param {Cose} cose */
@@ -874,5 +1049,5 @@ class Maker extends Block {
 }
 
 if (typeof module === "object") {
-    Object.assign(module.exports, { Cose, KeyTable, Verifier, Maker, STATUS, WANTED, UNMET: STATED.UNMET, FIELDS, LAYOUTS, copyOf });
+    Object.assign(module.exports, { Cose, Block, KeyTable, Verifier, Elsewhere, Maker, STATUS, WANTED, UNMET: STATED.UNMET, MISMATCH: STATED.MISMATCH, FIELDS, LAYOUTS, copyOf });
 }

@@ -60,6 +60,9 @@ class Stated {
         ...["issuer", "subject", "audience", "lifetime", "age", "issued"],
     ]);
 
+    /** The conditions under which a key fits a message, by their numbers, in the order in which they are checked. */
+    static MISMATCH = Object.freeze(["", "algorithm", "key type", "curve", "operation", "identifier", "not permitted"]);
+
     /**
      * Writes the fields of a struct: a value for each, and of an array those that are stated before zeros.
      * @param {DataView} view of the struct

@@ -1,6 +1,7 @@
 /* A firmware update: writes an image to a slot only where the COSE_Sign1 next to it is authentic. The message has nil
  * for its payload (RFC 9052 section 4.2), and the image is in a file of its own. An adapter verifies the signature:
- * adapters/openssl.c or adapters/mbedtls.c is compiled with this file.
+ * adapters/openssl.c or adapters/mbedtls.c is compiled with this file. With COSE_ELSEWHERE the image is hashed by
+ * OpenSSL too, in adapters/elsewhere.c, as it would be by a device's hardware.
  *
  * usage: firmware_update KEYS MESSAGE IMAGE SLOT
  *
@@ -11,6 +12,9 @@
  * and 2 the slot is as it was. */
 #define _XOPEN_SOURCE 700
 #include "adapters/cose_adapter.h"
+#ifdef COSE_ELSEWHERE
+#include "adapters/elsewhere.h"
+#endif
 #include "cose.h"
 #include "load.h"
 #include <errno.h>
@@ -107,6 +111,9 @@ static int copy_image(struct cose_verifier *verifier, int image, int slot)
         }
         if (cose_feed_payload(verifier, piece, most) != most || write_all(slot, piece, most) != 0)
             return fail("the slot");
+#ifdef COSE_ELSEWHERE
+        elsewhere_update(piece, most);
+#endif
     }
     if (read_all(image, piece, 1) != 0) {
         fputs("the image became longer while it was read\n", stderr);
@@ -120,10 +127,14 @@ static int copy_image(struct cose_verifier *verifier, int image, int slot)
 /* The verdict on a complete message. */
 static int judge(struct cose_verifier *verifier)
 {
-    struct cose_signature_input input;
     struct cose_message_verdict verdict;
+#ifdef COSE_ELSEWHERE
+    cose_verdict_of_answer(verifier, cose_message_number(verifier), elsewhere_is_good(verifier), &verdict);
+#else
+    struct cose_signature_input input;
     int is_good = cose_sign_input(verifier, &input) == 1 && cose_signature_is_good(&input) == 1;
     cose_verdict(verifier, is_good, &verdict);
+#endif
     if (verdict.status != COSE_AUTHENTIC)
         return refuse(verdict.reason, verdict.place);
     return UPDATED;
@@ -137,6 +148,10 @@ static int verify(struct cose_verifier *verifier, size_t message_length, int ima
     cose_feed(verifier, message, message_length, &fed);
     size_t taken = (size_t)fed.used;
     if (fed.status.status == COSE_PAYLOAD_NEXT) {
+#ifdef COSE_ELSEWHERE
+        if (elsewhere_begin(verifier) != 0)
+            return NO_ANSWER;
+#endif
         int copied = copy_image(verifier, image, slot);
         if (copied != UPDATED)
             return copied;
@@ -210,7 +225,11 @@ int main(int count, char **arguments)
     struct cose_status status;
     int answer = NO_ANSWER;
     cose_begin(block);
+#ifdef COSE_ELSEWHERE
+    cose_open_elsewhere_detached(&verifier, keys, keys_length, NULL, 0, COSE_SIGN1, image_length, &status);
+#else
     cose_open_detached(&verifier, keys, keys_length, NULL, 0, COSE_SIGN1, image_length, &status);
+#endif
     if (status.status == COSE_MORE)
         answer = update(&verifier, message_length, image, arguments[4]);
     else

@@ -10,7 +10,7 @@ const TOP = new URL("../../../", import.meta.url);
 const html = readFileSync(new URL("web/index.html", TOP), "utf8");
 const OF_ELEMENTS = ["cose_wasm.js", "elements.js", "bytes_view.js", "answer_view.js", "page.js"];
 const scripts = [...html.matchAll(/<script defer src="([^"]+)"/g)].map((it) => it[1]).filter((it) => !OF_ELEMENTS.includes(it));
-const names = "Cose, answerTo, bytesFrom, keysFrom, phaseOf, pictureOf, reasonOf, diagnostic, wholeItem, EXAMPLES, REASONS, SENTENCES, spanText, momentText";
+const names = "Cose, STATUS, Stated, answerTo, bytesFrom, keysFrom, phaseOf, pictureOf, reasonOf, diagnostic, wholeItem, EXAMPLES, REASONS, SENTENCES, spanText, momentText";
 const text = scripts.map((it) => readFileSync(new URL(`web/${it}`, TOP), "utf8")).join("\n");
 // Node 18 has no such globals
 globalThis.crypto ??= webcrypto;
@@ -20,8 +20,15 @@ const page = runInThisContext(`(() => { ${text}\nreturn { ${names} }; })()`, { f
 const cose = await page.Cose.load(readFileSync(new URL("../cose.wasm", import.meta.url)));
 const octets = (hex) => new Uint8Array(Buffer.from(hex, "hex"));
 const NOW = 1795780800n; // 2026-11-27
-const ask = (inquiry) => page.answerTo(cose, { aad: new Uint8Array(), wanted: 0, policy: { now: NOW, leeway: 0 }, ...inquiry }, () => true);
+const TERMS = { aad: new Uint8Array(), wanted: 0 };
+const ask = ({ terms, requirements, ...inquiry }) => {
+    const stated = { terms: { ...TERMS, ...terms }, requirements: { now: NOW, leeway: 0, ...requirements } };
+    return page.answerTo(cose, { ...stated, ...inquiry }, () => true);
+};
+/** As they were before anything was stated: any key will do. */
+const ALL_KEYS = { shortMac: true, withoutAlg: true };
 const said = ({ state, refusal, claims }) => {
+    if (claims?.status === page.STATUS.UNMET) return `${state}, ${page.Stated.UNMET[claims.reason]} at ${claims.place}`;
     const fault = refusal ?? (claims && claims.status !== 1 ? claims : undefined);
     return fault ? `${state}, ${page.reasonOf(fault.reason).name} at ${fault.place}` : `${state}${claims ? ", admitted" : ""}`;
 };
@@ -29,9 +36,10 @@ const said = ({ state, refusal, claims }) => {
 test("each example has its verdict", async () => {
     const found = {};
     for (const example of page.EXAMPLES) {
-        const policy = { now: example.now ? BigInt(Date.parse(`${example.now.replace(" ", "T")}Z`) / 1000) : NOW, leeway: 0 };
+        const requirements = example.now ? { now: BigInt(Date.parse(`${example.now.replace(" ", "T")}Z`) / 1000) } : {};
+        const terms = { shortMac: example.permits?.includes("short_mac"), withoutAlg: example.permits?.includes("without_alg") };
         const [message, keys] = [page.bytesFrom(example.message, "message"), page.keysFrom(example.keys)];
-        const answer = await ask({ message, keys, policy, payload: example.payload?.() });
+        const answer = await ask({ message, keys, terms, requirements, payload: example.payload?.() });
         found[example.name] = said(answer);
         if (answer.state === "authentic") assert.equal(answer.keys.filter((it) => it.state === "chosen").length, 1, example.name);
         for (const { state, why } of answer.keys) assert.equal(state === "chosen", why === undefined, example.name);
@@ -57,7 +65,7 @@ test("each row of messages that needs no signature is answered as it says, and i
             if (signature || ["PastRoom", "TooDeep"].includes(result.reason)) continue;
             const bytes = octets(message).subarray(0, result.taken);
             const wanted = { tagged: 0, mac0: 17, sign1: 18 }[group.wanted];
-            const answer = await ask({ message: bytes, keys: octets(group.keys), aad: octets(group.aad), wanted });
+            const answer = await ask({ message: bytes, keys: octets(group.keys), terms: { ...ALL_KEYS, aad: octets(group.aad), wanted } });
             const expected = result.verdict === "refused" ? `refused, ${result.reason} at ${result.place}` : "authentic";
             assert.equal(said(answer).split(", ").slice(0, expected.split(", ").length).join(", "), expected, `messages ${tcId}`);
             const ends = [0, ...answer.picture.parts.map((it) => it.to)];
@@ -67,6 +75,38 @@ test("each row of messages that needs no signature is answered as it says, and i
         }
     }
     assert.ok(count > 250, `${count} rows`);
+});
+
+test("each row of terms is answered as it says", async () => {
+    const statedBy = (group) => {
+        const { algorithms, leastSecret, shortMac, withoutAlg, iss: issuer, sub: subject, aud: audience, present, withoutExp, leeway, understood, payloadLimit } = group;
+        const terms = { algorithms, leastSecret, shortMac, withoutAlg, understood, payloadLimit, aad: octets(group.aad), wanted: { tagged: 0, mac0: 17, sign1: 18 }[group.wanted] };
+        const requirements = { now: BigInt(group.now), leeway, issuer, subject, audience, present, withoutExp, maxLifetime: group.lifetime, maxAge: group.age };
+        return { terms, requirements, keys: octets(group.keys) };
+    };
+    for (const group of JSON.parse(readFileSync(new URL("rows/terms.json", TOP), "utf8")).testGroups) {
+        for (const { token, result, tcId } of group.tests) {
+            const answer = await ask({ message: octets(token), ...statedBy(group) });
+            const { verdict, reason, claim, requirement, place } = result;
+            const name = reason ?? claim ?? requirement?.toLowerCase();
+            const state = verdict.startsWith("refused message") ? "refused" : "authentic";
+            // what has no claim of admission isn't taken for a token here
+            if (answer.state === "authentic" && !answer.claims) continue;
+            assert.equal(said(answer), verdict === "admitted" ? "authentic, admitted" : `${state}, ${name} at ${place}`, `terms ${tcId}`);
+        }
+    }
+});
+
+test("a key that what is stated leaves out is said to be left out", async () => {
+    const [message, keys] = [octets("d18443a10105a042686958207d81e964aaee5fbd8adfb3f533657a9ef9f782f04b91877b6004272a0352f960"), octets("a2010420444a656665")];
+    const states = async (terms) => {
+        const answer = await ask({ message, keys, terms });
+        return [said(answer), ...answer.keys.map((it) => it.state)];
+    };
+    assert.deepEqual(await states({}), ["refused, NoKey at 7", "left out"]);
+    assert.deepEqual(await states(ALL_KEYS), ["authentic", "chosen"]);
+    assert.deepEqual(await states({ ...ALL_KEYS, leastSecret: 5 }), ["refused, NoKey at 7", "left out"]);
+    assert.deepEqual(await states({ ...ALL_KEYS, algorithms: [5] }), ["refused, NoKey at 7", "left out"]);
 });
 
 test("each reason has a sentence of its own, in plain words", () => {

@@ -3,11 +3,12 @@
 // rows/README.md is the schema. The interface has fixed limits: header buckets of 1,024 bytes nested 8 deep, and of 65,535 bytes
 // nested 16 deep in the large size; a CWT tag may come; no label is understood in addition; payloads have no limit. A group with
 // narrower limits is run too: these can change an answer only to the reasons that they give, so only rows that expect one of
-// these reasons are left out. `node tests/rows.mjs` prints what each file has, what is left out and why.
+// these reasons are left out. `node tests/rows.mjs` prints what each file has, what is left out and why,
+// `node tests/rows.mjs NAME` that of one file.
 import assert from "node:assert/strict";
 import { readFileSync } from "node:fs";
 import { fileURLToPath } from "node:url";
-import { KeyTable, load, Maker, reasonOf, STATUS, UNMET, Verifier } from "../index.mjs";
+import { KeyTable, load, Maker, reasonOf, Refused, Sign1Maker, STATUS, UNMET, Verifier } from "../index.mjs";
 
 const ROWS = new URL("../../../rows/", import.meta.url);
 const CUTS = [1, 2, 7, 64, 65_536];
@@ -301,6 +302,38 @@ function runTerms(group, test) {
     }
 }
 
+// ---- the lines of SECURITY's checklist
+
+/** What a caller who follows the checklist makes of a message: the safe calls, with what it states. */
+async function checked(group, test, large) {
+    const [keys, token, stated] = [octets(group.keys), octets(test.token), termsOf(group, large)];
+    if ("payload" in test) {
+        await cose.authenticPayload(keys, token, { ...stated, payload: octets(test.payload) });
+        return ["accepted"];
+    }
+    await cose.admitted(keys, token, stated);
+    const { wanted } = stated;
+    const lacks = ["protected", "unprotected"].some((bucket) =>
+        (group[bucket] ?? []).some((label) => cose.parameter(token, label, { protected: bucket === "protected", wanted, large }) === undefined),
+    );
+    return [lacks ? "dropped" : "accepted"];
+}
+
+/** The refusal of a message, a token or claims, as rows have it. */
+function refusedAs(fault) {
+    if (!(fault instanceof Refused)) throw fault;
+    const verdict = { REFUSED: "refused", CLAIMS_REFUSED: "refused claims", UNMET: "unmet" }[fault.status];
+    return [verdict ?? fault.status, fault.reason, fault.place];
+}
+
+async function runChecklist(group, test) {
+    const { verdict, reason } = test.result;
+    const wanted = verdict === "unmet" || reason ? wantedOf(test.result) : [verdict];
+    for (const large of reason === "PastRoom" ? [false] : [false, true]) {
+        equal(await checked(group, test, large).catch(refusedAs), wanted, `line ${group.line}`);
+    }
+}
+
 // ---- keys
 
 // what a set is refused for; a key in it that is refused for another reason isn't usable
@@ -357,6 +390,32 @@ function runMade(group, test) {
     }
 }
 
+function runSigned(group, test) {
+    const [{ result }, payload, length] = [test, octets(test.payload), BigInt(test.payloadLength)];
+    if (test.kid === "") throw new LeftOut("an empty key identifier is none");
+    for (const size of [1, 64]) {
+        const maker = new Sign1Maker(cose);
+        const head = maker.head(length, { alg: test.alg, kid: octets(test.kid ?? ""), aad: octets(test.aad) });
+        const made = [...head.bytes];
+        let [left, fault, digest] = [payload.length, head.status !== STATUS.MORE, undefined];
+        if (!fault) {
+            for (const piece of cut(payload, size)) {
+                const used = maker.piece(piece);
+                made.push(...piece.subarray(0, used));
+                left -= used;
+            }
+            digest = hex(maker.digest().bytes);
+            const tail = maker.end(octets(test.signature));
+            made.push(...tail.bytes);
+            fault = tail.status !== STATUS.COMPLETE;
+        }
+        const wanted = [result.verdict === "fault", result.message, result.left];
+        equal([fault, hex(made), left], wanted, `Sign1Maker, pieces of ${size}`);
+        if (!fault) equal(digest, result.digest, `the digest, pieces of ${size}`);
+        maker.close();
+    }
+}
+
 const RUNNERS = {
     messages: runMessage,
     detached: runDetached,
@@ -364,9 +423,11 @@ const RUNNERS = {
     tokens: runToken,
     claims: runClaims,
     terms: runTerms,
+    checklist: runChecklist,
     keys: runKey,
     sets: runSet,
     made: runMade,
+    signed: runSigned,
 };
 
 /** The files of rows that the interface can be asked. */
@@ -376,13 +437,13 @@ export const SCHEMAS = Object.keys(RUNNERS);
  * Runs the rows of a file: how many it has, which differ, and why others are left out.
  * @param {string} schema
  */
-export function runFile(schema) {
+export async function runFile(schema) {
     const counts = { rows: 0, differ: [], leftOut: new Map() };
     for (const group of JSON.parse(readFileSync(new URL(`${schema}.json`, ROWS), "utf8")).testGroups) {
         for (const test of group.tests) {
             counts.rows += 1;
             try {
-                RUNNERS[schema](group, test);
+                await RUNNERS[schema](group, test);
             } catch (fault) {
                 if (fault instanceof LeftOut) counts.leftOut.set(fault.message, (counts.leftOut.get(fault.message) ?? 0) + 1);
                 else counts.differ.push(`${schema} ${test.tcId}, ${test.comment}: ${fault.message}`);
@@ -408,8 +469,9 @@ export function lineOf(schema, counts) {
 }
 
 if (process.argv[1] === fileURLToPath(import.meta.url)) {
-    for (const schema of SCHEMAS) {
-        const counts = runFile(schema);
+    const names = process.argv.slice(2);
+    for (const schema of names.length ? names : SCHEMAS) {
+        const counts = await runFile(schema);
         console.log([...counts.differ, lineOf(schema, counts)].join("\n"));
         if (counts.differ.length) process.exitCode = 1;
     }

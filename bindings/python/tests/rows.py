@@ -4,13 +4,16 @@ rows/README.md is the schema. The interface has fixed limits: header buckets of 
 deep, and of 65,535 bytes nested 16 deep in the large size; a CWT tag may come; no label is
 understood in addition; payloads have no limit. A group with narrower limits is run too: these can
 change an answer only to the reasons that they give, so only rows that expect one of these reasons
-are left out. `python rows.py` prints what each file has, what is left out and why.
+are left out. `python rows.py` prints what each file has, what is left out and why, and
+`python rows.py NAME` that of one file.
 """
 
 from __future__ import annotations
 
 import collections
 import functools
+import hashlib
+import hmac
 import json
 import pathlib
 import sys
@@ -162,6 +165,92 @@ def run_pieces(keys: bytes, message: bytes, options: Row, result: Row, size: int
             equal(bytes(came), payload, f"{how}, payload")
 
 
+# ---- messages that are authenticated here, and not by the library
+
+HASHES = {4: "sha256", 5: "sha256", 6: "sha384", 7: "sha512"}
+HASHES.update({-7: "sha256", -9: "sha256", -35: "sha384", -51: "sha384", -36: "sha512"})
+HASHES[-52] = "sha512"
+
+
+def stated(verifier: cose.Elsewhere, payload: bytes, ecdsa: Signature, change: str) -> cose.Verdict:
+    """The verdict by what is computed here of a message that is complete, or of another one."""
+    key, front = verifier.asked_key(), verifier.front()
+    assert key is not None and front is not None
+    structure = b"".join(front) + payload
+    if key.k is None:
+        assert key.crv is not None and key.x is not None and key.y is not None
+        digest = hashlib.new(HASHES[key.alg], structure).digest()
+        signature = verifier.asked_signature()
+        assert signature is not None
+        holds = ecdsa(cose.SignInput(key.crv, key.x, key.y, digest, signature))
+        not_asked(lambda: verifier.verdict_of_mac(digest), "a MAC of a COSE_Sign1")
+        return verifier.verdict_of_answer(holds)
+    hashed = structure + b"\0" if change == "a MAC of another message" else structure
+    mac = hmac.new(key.k, hashed, HASHES[key.alg]).digest()[: 8 if key.alg == 4 else None]
+    for other in (b"", mac[:-1], mac + b"\0"):
+        not_asked(lambda: verifier.verdict_of_mac(other), f"a MAC of {len(other)} bytes")
+    equal(verifier.asked_signature(), None, "asked_signature of a COSE_Mac0")
+    not_asked(lambda: verifier.verdict_of_answer(True), "an answer about a COSE_Mac0")
+    return verifier.verdict_of_mac(flipped(mac) if change == "another bit" else mac)
+
+
+def flipped(mac: bytes) -> bytes:
+    return mac[:-1] + bytes([mac[-1] ^ 1])
+
+
+def not_asked(call: Callable[[], object], how: str) -> None:
+    """What isn't asked for is no verdict."""
+    try:
+        call()
+    except ValueError:
+        return
+    raise Differs(f"{how} has a verdict")
+
+
+def run_elsewhere(
+    keys: bytes, test: Row, options: Row, size: int, length: Optional[int] = None, change: str = ""
+) -> None:
+    """The same as the other door gives, in pieces; where the MAC is changed, no message is authentic."""
+    result, message, content = test["result"], octets(test, "message"), bytearray()
+    ecdsa = options["ecdsa"]
+    rest = {name: value for name, value in options.items() if name != "ecdsa"}
+    how, count = f"Elsewhere, pieces of {size}", 0
+    with cose.Elsewhere(keys, payload_length=length, **rest) as verifier:
+
+        def call() -> Answer:
+            nonlocal count
+            used = fed(verifier, message, size, content)[1]
+            if length is not None:
+                count = feed_payload(verifier, octets(test, "payload"), size)
+                content.extend(octets(test, "payload")[:count])
+                fed(verifier, message[used:], size, bytearray())
+            verifier.end()
+            found = stated(verifier, bytes(content), ecdsa, change)
+            not_asked(lambda: verifier.verdict_of_mac(b"\0" * 32), "a second MAC")
+            not_asked(lambda: verifier.verdict_of_answer(True), "a second answer")
+            return (
+                "authentic",
+                found.kind.name.lower(),
+                int(found.alg),
+                found.payload_length,
+                found.taken,
+            )
+
+        seen = answer(call)
+        if change:
+            is_mac = result["kind"] == "mac0"
+            equal(seen[:2] == ("refused", "BadAuth"), is_mac, f"{how}, {change}")
+            return
+        is_good = result["verdict"] == "authentic"
+        payload = octets(result, "payload") if is_good and length is None else b""
+        equal(seen, expected(result, len(payload) if length is None else length), how)
+        equal(verifier.taken, result["taken"], f"{how}, taken")
+        if length is not None:
+            equal(count, result["payloadTaken"], f"{how}, taken of the payload")
+        elif is_good:
+            equal(bytes(content), payload, f"{how}, payload")
+
+
 def run_message(group: Row, test: Row) -> None:
     result = test["result"]
     for large in sizes(group, result.get("reason")):
@@ -176,6 +265,10 @@ def run_message(group: Row, test: Row) -> None:
             run_whole(held, message, options, result)
         for size in CUTS:
             run_pieces(keys, message, options, result, size)
+            run_elsewhere(keys, test, options, size)
+        changes = ("another bit", "a MAC of another message")
+        for change in changes if result["verdict"] == "authentic" else ():
+            run_elsewhere(keys, test, options, 64, change=change)
 
 
 # ---- detached messages
@@ -227,6 +320,7 @@ def run_detached(group: Row, test: Row) -> None:
         }
         for size in CUTS:
             run_detached_pieces(keys, test, length, options, size)
+            run_elsewhere(keys, test, options, size, length)
         for end in range(result["taken"] if is_good else 0):
             run_detached_pieces(keys, test, length, options, 64, end)
         if len(payload) >= length:
@@ -422,6 +516,52 @@ def run_terms(group: Row, test: Row) -> None:
         equal(answer(in_two), wanted, "authenticate and admit_claims")
 
 
+# ---- the lines of SECURITY's checklist
+
+
+def has_parameters(group: Row, message: cose.Message) -> bool:
+    """Whether the buckets have the parameters without which the caller drops the message."""
+    read = {"protected": message.protected, "unprotected": message.unprotected}
+    for bucket, label in ((it, label) for it in read for label in group.get(it, ())):
+        try:
+            read[bucket](label)
+        except KeyError:
+            return False
+    return True
+
+
+def checked(group: Row, test: Row, keys: cose.Keys, large: bool) -> Answer:
+    """What a caller who follows the checklist makes of a message: the safe calls, with what it states."""
+    given, token = terms_of(group), octets(test, "token")
+    messages = {it: given.pop(it) for it in (*_STATED, "aad", "wanted") if it in given}
+    messages.update(ecdsa=Signature(test), large=large)
+    if "payload" in test:
+        cose.authenticate(keys, token, payload=octets(test, "payload"), **messages)
+        return ("accepted",)
+    try:
+        cose.admit(keys, token, **given, **messages)
+    except cose.Unmet as unmet:
+        return "unmet", unmet.requirement.name, unmet.place
+    found = cose.authenticate(keys, token, **messages)
+    return ("accepted",) if has_parameters(group, found) else ("dropped",)
+
+
+def run_checklist(group: Row, test: Row) -> None:
+    result, keys = test["result"], octets(group, "keys")
+    if result["verdict"] == "unmet":
+        wanted = unmet_of(result)
+    elif "reason" in result:
+        wanted = refusal(result, result["verdict"].replace(" message", ""))
+    else:
+        wanted = (result["verdict"],)
+    for large in SIZES:
+        if large and result.get("reason") == "PastRoom":
+            continue
+        for held in (keys, cose.KeyTable(keys)):
+            seen = answer(lambda: checked(group, test, held, large))
+            equal(seen, wanted, f"line {group['line']}")
+
+
 # ---- keys
 
 # what a set is refused for; a key in it that is refused for another reason isn't usable
@@ -499,6 +639,40 @@ def run_made(group: Row, test: Row) -> None:
         equal((bytes(made), left), (message, result["left"]), f"Maker, pieces of {size}")
 
 
+def run_signed(group: Row, test: Row) -> None:
+    result, payload, length = test["result"], octets(test, "payload"), int(test["payloadLength"])
+    if test.get("kid") == "":
+        raise LeftOut("an empty key identifier is none")
+    message, digest = octets(result, "message"), bytes.fromhex(result.get("digest", ""))
+    for size in (1, 64):
+        made, asked, left = bytearray(), b"", len(payload)
+        try:
+            maker = cose.Sign1Maker(
+                length,
+                alg=test["alg"],
+                kid=octets(test, "kid") if "kid" in test else b"",
+                aad=octets(test, "aad"),
+            )
+            made += maker.head
+            for piece in cut(payload, size):
+                used = maker.piece(piece)
+                made += piece[:used]
+                left -= used
+            asked = maker.digest()
+            made += maker.end(octets(test, "signature"))
+            fault = None
+        except ValueError as error:
+            fault = error
+        equal(
+            (fault is not None),
+            result["verdict"] == "fault",
+            f"Sign1Maker, pieces of {size}: {fault}",
+        )
+        equal((bytes(made), left), (message, result["left"]), f"Sign1Maker, pieces of {size}")
+        if fault is None:
+            equal(asked, digest, f"the digest, pieces of {size}")
+
+
 RUNNERS: Dict[str, Callable[[Row, Row], None]] = {
     "messages": run_message,
     "detached": run_detached,
@@ -506,9 +680,11 @@ RUNNERS: Dict[str, Callable[[Row, Row], None]] = {
     "tokens": run_token,
     "claims": run_claims,
     "terms": run_terms,
+    "checklist": run_checklist,
     "keys": run_key,
     "sets": run_set,
     "made": run_made,
+    "signed": run_signed,
 }
 
 
@@ -545,7 +721,7 @@ def run_file(schema: str) -> Counts:
 
 def main() -> int:
     differ = 0
-    for schema in RUNNERS:
+    for schema in sys.argv[1:] or RUNNERS:
         counts = run_file(schema)
         differ += len(counts.differ)
         print("\n".join([*counts.differ, counts.line(schema)]))

@@ -135,6 +135,9 @@ class Tokens(unittest.TestCase):
         payload = cbor.encode({4: NOW + 1, 100: deep})
         self.assertEqual(cose.admit_claims(payload, now=NOW, large=True).exp, NOW + 1)
         self.assertEqual(cose.admit(KEYS, mac0(payload), now=NOW, large=True).exp, NOW + 1)
+        signed, keys = sign1(payload, sign1_parts(payload, -7)[0], b"\x33" * 64), cbor.encode(POINT)
+        found = cose.admit(keys, signed, ecdsa=lambda _: True, now=NOW, large=True)
+        self.assertEqual(found.exp, NOW + 1)
         with self.assertRaises(cose.ClaimsRefused):
             cose.admit_claims(payload, now=NOW)
         with self.assertRaises(cose.ClaimsRefused):

@@ -1,5 +1,6 @@
 """Claims and header parameters of any label as Python's own types: the cases of bindings/items.json."""
 
+import functools
 import json
 import math
 import struct
@@ -12,6 +13,8 @@ from support import KEYS, REPOSITORY, mac0
 
 CASES = json.loads((REPOSITORY / "bindings" / "items.json").read_text())
 JEFE = cbor.encode({1: 4, -1: b"Jefe"})
+# under terms that leave no key out
+ANY_KEY = functools.partial(cose.authenticate, short_mac=True, without_alg=True)
 SIMPLE = {20: False, 21: True, 22: None}
 
 
@@ -115,8 +118,18 @@ class Parameters(unittest.TestCase):
 
     def test_untagged(self) -> None:
         data = bytes.fromhex(CASES["parameters"]["message"])[1:]
-        message = cose.verify(JEFE, data, wanted=cose.Kind.MAC0)
-        self.assertEqual(message.protected(4), b"key one")
+        for call in (cose.verify, ANY_KEY):
+            message = call(JEFE, data, wanted=cose.Kind.MAC0)
+            self.assertEqual(message.protected(4), b"key one")
+
+    def test_large_header(self) -> None:
+        kid = bytes(1_100)
+        data = mac0(b"hi", kid=kid)
+        for call in (cose.verify, ANY_KEY):
+            self.assertEqual(call(KEYS, data, large=True).unprotected(4), kid)
+        with cose.Verifier(KEYS, large=True) as verifier:
+            verifier.feed(data)
+            self.assertEqual(verifier.unprotected(4), kid)
 
 
 class Decoding(unittest.TestCase):

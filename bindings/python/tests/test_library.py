@@ -31,6 +31,7 @@ STRUCTS: Dict[str, Type[ctypes.Structure]] = {
     "cose_large_verifier": _library.HandleStruct,
     "cose_table": _library.HandleStruct,
     "cose_maker": _library.HandleStruct,
+    "cose_signer": _library.HandleStruct,
 }
 
 

@@ -16,9 +16,11 @@ class Rows(unittest.TestCase):
         "tokens": 4,
         "claims": 23,
         "terms": 0,
+        "checklist": 0,
         "keys": 2,
         "sets": 11,
         "made": 1,
+        "signed": 1,
     }
 
     def test_rows(self) -> None:

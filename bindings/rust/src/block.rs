@@ -2,7 +2,7 @@
 
 use core::mem::{align_of, size_of, MaybeUninit};
 
-use crate::Error;
+use crate::{raw, Error};
 
 /// Memory for a [`Verifier`](crate::Verifier), a [`KeyTable`](crate::KeyTable) or a [`Maker`](crate::Maker), which borrow it: it may
 /// be on the stack, in a `static` or in a larger struct. It can be used again when they are gone.
@@ -14,6 +14,23 @@ impl<const N: usize> Block<N> {
     #[must_use]
     pub const fn new() -> Self {
         Block([MaybeUninit::uninit(); N])
+    }
+
+    /// Overwrites the memory with zeros: what a verifier, a table or a maker leaves there is derived from keys. Nothing that is to
+    /// be wiped may use the block any more, which the compiler sees. What calls left on the stack isn't overwritten.
+    ///
+    /// ```
+    /// use cose::{Block, KeyTable};
+    ///
+    /// let mut block = Block::new();
+    /// let table = KeyTable::read(&mut block, b"\xa2\x01\x04\x20\x44Jefe")?;
+    /// assert_eq!(table.usable(), 1);
+    /// block.wipe();
+    /// # Ok::<(), cose::Error>(())
+    /// ```
+    pub fn wipe(&mut self) {
+        // SAFETY: the memory is this block's, and the call writes each of its bytes and reads none.
+        unsafe { raw::cose_edge_wipe_bytes(self.0.as_mut_ptr().cast(), N) };
     }
 }
 

@@ -52,16 +52,19 @@ compile_error!("this crate is for targets whose pointers have 64 bits");
 mod adapter;
 mod block;
 mod claims;
+mod elsewhere;
 mod error;
 mod functions;
 #[cfg(feature = "std")]
 mod io;
 mod item;
+mod key_choice;
 mod make;
 mod message;
 mod parameter;
 mod raw;
 mod reason;
+mod sign;
 mod sign_input;
 mod size;
 mod table;
@@ -70,10 +73,12 @@ mod verifier;
 
 pub use block::Block;
 pub use claims::{claims, verify_cwt, Audiences, Claims, Confirmation, Policy};
+pub use elsewhere::{AskedKey, AskedMaterial, AskedSignature, Elsewhere, FrontPieces};
 pub use error::Error;
 #[cfg(feature = "std")]
 pub use io::{make, ReadError};
 pub use item::{Item, Items};
+pub use key_choice::Mismatch;
 pub use make::{MacAlg, Maker, MakerBlock, Making, HEAD_ROOM, TAIL_ROOM};
 pub use message::{
     shape, usable_keys, verify, verify_detached, verify_with, Kind, Message, Options, Shape,
@@ -81,6 +86,10 @@ pub use message::{
 };
 pub use parameter::{parameter, Bucket, Label};
 pub use reason::{Reason, Refusal};
+pub use sign::{
+    PrehashSigner, Sign1Maker, SignError, SignatureAlg, SignerBlock, Signing, DIGEST_ROOM,
+    SIGNATURE_ROOM,
+};
 pub use sign_input::{Curve, PublicKey, SignInput, POINT_ROOM, Y};
 pub use size::{Large, Size, Small};
 pub use table::{KeyTable, TableBlock};

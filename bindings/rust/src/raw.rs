@@ -83,6 +83,47 @@ pub(crate) struct Claims {
     pub(crate) cnf_y_sign: u8,
 }
 
+/// What precedes the payload in the structure that is authenticated (RFC 9052 sections 4.4 and 6.3), in six pieces: the third is
+/// the content of the protected header as received, and the fifth the externally supplied data.
+#[repr(C)]
+#[derive(Clone, Copy)]
+pub(crate) struct FrontPieces {
+    pub(crate) protected_length: u64,
+    pub(crate) context_length: u8,
+    pub(crate) protected_head_length: u8,
+    pub(crate) aad_head_length: u8,
+    pub(crate) payload_head_length: u8,
+    pub(crate) context: [u8; 12],
+    pub(crate) protected_head: [u8; 9],
+    pub(crate) aad_head: [u8; 9],
+    pub(crate) payload_head: [u8; 9],
+}
+
+/// The key that was chosen for a message, as it is in the caller's key set.
+#[repr(C)]
+pub(crate) struct AskedKey {
+    pub(crate) alg: i32,
+    pub(crate) crv: u8,
+    pub(crate) y_sign: u8,
+    pub(crate) has_kid: u8,
+    pub(crate) kid: *const u8,
+    pub(crate) kid_length: usize,
+    pub(crate) k: *const u8,
+    pub(crate) k_length: usize,
+    pub(crate) x: *const u8,
+    pub(crate) x_length: usize,
+    pub(crate) y: *const u8,
+    pub(crate) y_length: usize,
+}
+
+/// The signature of a message, as it was received.
+#[repr(C)]
+#[derive(Clone, Copy)]
+pub(crate) struct AskedSignature {
+    pub(crate) length: u64,
+    pub(crate) signature: [u8; 132],
+}
+
 /// The handle of a verifier: where its block is.
 #[repr(C)]
 pub(crate) struct LargeVerifier {
@@ -92,6 +133,12 @@ pub(crate) struct LargeVerifier {
 /// The handle of a maker: where its block is.
 #[repr(C)]
 pub(crate) struct Maker {
+    pub(crate) at: *mut u8,
+}
+
+/// The handle of a signer: where its block is.
+#[repr(C)]
+pub(crate) struct Signer {
     pub(crate) at: *mut u8,
 }
 
@@ -133,6 +180,16 @@ pub(crate) struct Item {
     pub(crate) number: u64,
     pub(crate) present: u8,
     pub(crate) major: u8,
+}
+
+/// Whether a key fits a message.
+#[repr(C)]
+#[derive(Clone, Copy, Debug, Default, PartialEq, Eq)]
+pub(crate) struct KeyFit {
+    pub(crate) status: u8,
+    pub(crate) reason: u8,
+    pub(crate) condition: u8,
+    pub(crate) place: u64,
 }
 
 /// What is known of a key set (RFC 9052 section 7).
@@ -280,12 +337,51 @@ unsafe extern "C" {
     );
     pub(crate) fn cose_edge_audience(payload: *const u8, payload_length: usize, index: u64, audience: &mut Range);
     pub(crate) fn cose_edge_next_audience(payload: *const u8, payload_length: usize, place: u64, audience: &mut Range);
+    pub(crate) fn cose_edge_large_open_elsewhere(
+        verifier: &mut LargeVerifier, keys: *const u8, keys_length: usize, aad: *const u8, aad_length: usize,
+        wanted: u8, status: &mut Status,
+    );
+    pub(crate) fn cose_edge_large_open_elsewhere_detached(
+        verifier: &mut LargeVerifier, keys: *const u8, keys_length: usize, aad: *const u8, aad_length: usize,
+        wanted: u8, payload_length: u64, status: &mut Status,
+    );
+    pub(crate) fn cose_edge_large_front_pieces(
+        verifier: &mut LargeVerifier, header: *mut u8, header_room: usize, pieces: &mut FrontPieces,
+    ) -> u8;
+    pub(crate) fn cose_edge_large_asked_key(verifier: &mut LargeVerifier, asked: &mut AskedKey) -> u8;
+    pub(crate) fn cose_large_asked_signature(verifier: &mut LargeVerifier, signature: &mut AskedSignature) -> u8;
+    pub(crate) fn cose_edge_large_verdict_of_mac(
+        verifier: &mut LargeVerifier, mac: *const u8, mac_length: usize, verdict: &mut Verdict,
+    );
+    pub(crate) fn cose_large_verdict_of_answer(
+        verifier: &mut LargeVerifier, message: u64, holds: i32, verdict: &mut Verdict,
+    );
+    pub(crate) fn cose_edge_open_elsewhere(
+        verifier: &mut Verifier, keys: *const u8, keys_length: usize, aad: *const u8, aad_length: usize, wanted: u8,
+        status: &mut Status,
+    );
+    pub(crate) fn cose_edge_open_elsewhere_detached(
+        verifier: &mut Verifier, keys: *const u8, keys_length: usize, aad: *const u8, aad_length: usize, wanted: u8,
+        payload_length: u64, status: &mut Status,
+    );
+    pub(crate) fn cose_edge_front_pieces(
+        verifier: &mut Verifier, header: *mut u8, header_room: usize, pieces: &mut FrontPieces,
+    ) -> u8;
+    pub(crate) fn cose_edge_asked_key(verifier: &mut Verifier, asked: &mut AskedKey) -> u8;
+    pub(crate) fn cose_asked_signature(verifier: &mut Verifier, signature: &mut AskedSignature) -> u8;
+    pub(crate) fn cose_edge_verdict_of_mac(
+        verifier: &mut Verifier, mac: *const u8, mac_length: usize, verdict: &mut Verdict,
+    );
+    pub(crate) fn cose_verdict_of_answer(verifier: &mut Verifier, message: u64, holds: i32, verdict: &mut Verdict);
     pub(crate) safe fn cose_large_verifier_size() -> usize;
     pub(crate) safe fn cose_large_verifier_align() -> usize;
     pub(crate) fn cose_large_begin(at: *mut u8);
     pub(crate) safe fn cose_maker_size() -> usize;
     pub(crate) safe fn cose_maker_align() -> usize;
     pub(crate) fn cose_maker_begin(at: *mut u8);
+    pub(crate) safe fn cose_signer_size() -> usize;
+    pub(crate) safe fn cose_signer_align() -> usize;
+    pub(crate) fn cose_signer_begin(at: *mut u8);
     pub(crate) safe fn cose_table_size() -> usize;
     pub(crate) safe fn cose_table_align() -> usize;
     pub(crate) fn cose_table_begin(at: *mut u8);
@@ -297,6 +393,10 @@ unsafe extern "C" {
         payload: *const u8, payload_length: usize, name: *const u8, name_length: usize, item: &mut Item,
     );
     pub(crate) fn cose_edge_item_at(payload: *const u8, payload_length: usize, place: u64, item: &mut Item);
+    pub(crate) fn cose_edge_key_of(terms: &Terms, message: *const u8, message_length: usize, key: &mut Item);
+    pub(crate) fn cose_edge_mismatch(
+        terms: &Terms, message: *const u8, message_length: usize, place: u64, fit: &mut KeyFit,
+    );
     pub(crate) fn cose_edge_read_keys(keys: *const u8, keys_length: usize, key_set: &mut KeySet);
     pub(crate) fn cose_edge_make(
         maker: &mut Maker, alg: i32, key: *const u8, key_length: usize, kid: *const u8, kid_length: usize,
@@ -336,6 +436,18 @@ unsafe extern "C" {
         item: &mut Item,
     );
     pub(crate) fn cose_edge_shape(wanted: u8, message: *const u8, message_length: usize, shape: &mut Shape);
+    pub(crate) fn cose_edge_make_sign1(
+        signer: &mut Signer, alg: i32, kid: *const u8, kid_length: usize, aad: *const u8, aad_length: usize,
+        payload_length: u64, head: *mut u8, head_room: usize, made: &mut Made,
+    );
+    pub(crate) fn cose_edge_make_sign1_piece(signer: &mut Signer, piece: *const u8, piece_length: usize) -> u64;
+    pub(crate) fn cose_edge_make_sign1_digest(
+        signer: &mut Signer, digest: *mut u8, digest_room: usize, made: &mut Made,
+    );
+    pub(crate) fn cose_edge_make_sign1_end(
+        signer: &mut Signer, signature: *const u8, signature_length: usize, tail: *mut u8, tail_room: usize,
+        made: &mut Made,
+    );
     pub(crate) fn cose_edge_large_open(
         verifier: &mut LargeVerifier, keys: *const u8, keys_length: usize, aad: *const u8, aad_length: usize,
         wanted: u8, status: &mut Status,
@@ -407,5 +519,6 @@ unsafe extern "C" {
         table: &mut Table, aad: *const u8, aad_length: usize, policy: &Policy, token: *const u8, token_length: usize,
         claims: &mut Claims,
     );
+    pub(crate) fn cose_edge_wipe_bytes(bytes: *mut u8, bytes_room: usize);
 }
 // end of what ci/edge_tables makes

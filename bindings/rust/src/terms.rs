@@ -187,7 +187,7 @@ fn size_of<T>() -> u32 {
 
 impl Terms<'_> {
     /// As the library has them. What is returned borrows what the terms borrow.
-    fn raw(&self) -> Result<raw::Terms, Error> {
+    pub(crate) fn raw(&self) -> Result<raw::Terms, Error> {
         if self.algorithms.is_some_and(<[i32]>::is_empty) {
             return Err(Error::BadArgument);
         }

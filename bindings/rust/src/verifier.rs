@@ -27,7 +27,7 @@ pub enum Status {
 }
 
 impl Status {
-    fn of(status: &raw::Status) -> Result<Self, Error> {
+    pub(crate) fn of(status: &raw::Status) -> Result<Self, Error> {
         match status.number {
             number::MORE => Ok(Status::More),
             number::PAYLOAD_NEXT => Ok(Status::PayloadNext),
@@ -60,6 +60,20 @@ pub struct Accepted {
     pub payload_length: u64,
     /// How many bytes it has.
     pub taken: u64,
+}
+
+impl Accepted {
+    pub(crate) fn of(verdict: &raw::Verdict) -> Result<Self, Error> {
+        match verdict.status {
+            number::AUTHENTIC => Ok(Accepted {
+                kind: Kind::from_number(verdict.kind)?,
+                alg: verdict.alg,
+                payload_length: verdict.payload_length,
+                taken: verdict.taken,
+            }),
+            status => Err(Error::of(status, verdict.reason, verdict.place)),
+        }
+    }
 }
 
 /// A verifier of one message after another, which takes a message in pieces of any lengths and holds at most 2,560 bytes of it, and
@@ -234,14 +248,14 @@ impl<'k, S: Size> Verifier<'k, S> {
     }
 
     /// A verifier that has no keys yet.
-    fn begun(block: &'k mut S::Block) -> Result<Self, Error> {
+    pub(crate) fn begun(block: &'k mut S::Block) -> Result<Self, Error> {
         S::Block::holds((S::FUNCTIONS.size)(), (S::FUNCTIONS.align)())?;
         // SAFETY: the block has the size and the alignment that the library asks for, and is borrowed, so that it stays where it is.
         unsafe { (S::FUNCTIONS.begin)(block.at()) };
         Ok(Verifier { block })
     }
 
-    fn handle(&mut self) -> S::Handle {
+    pub(crate) fn handle(&mut self) -> S::Handle {
         self.block.at().into()
     }
 
@@ -320,15 +334,7 @@ impl<'k, S: Size> Verifier<'k, S> {
         let mut verdict = raw::Verdict::default();
         // SAFETY: the block was begun, and the call writes to the struct alone.
         unsafe { (S::FUNCTIONS.verdict)(&mut self.handle(), i32::from(good), &mut verdict) };
-        match verdict.status {
-            number::AUTHENTIC => Ok(Accepted {
-                kind: Kind::from_number(verdict.kind)?,
-                alg: verdict.alg,
-                payload_length: verdict.payload_length,
-                taken: verdict.taken,
-            }),
-            status => Err(Error::of(status, verdict.reason, verdict.place)),
-        }
+        Accepted::of(&verdict)
     }
 
     /// A header parameter of the message so far, by its label, which is copied into the room. Nothing of it is authentic before the

@@ -9,6 +9,8 @@ from ._answers import Ecdsa, SignInput
 from ._arguments import Algorithm, Buffer, Kind
 from ._library import Status
 from .admitting import admit, admit_claims, authenticate
+from .choosing import ChosenKey, Mismatch, key_of, mismatches
+from .elsewhere import AskedKey, Elsewhere
 from .errors import (
     ClaimsRefused,
     Error,
@@ -25,6 +27,7 @@ from .many import verify_many
 from .messages import Label, Message, Shape, shape, verify
 from .reasons import Reason
 from .signatures import ecdsa
+from .signing import Sign, Sign1Maker, ecdsa_signer, sign1
 from .tokens import Claims, Confirmation, ConfirmationKey, claims, verify_cwt
 from .verifier import Fed, Verdict, Verifier
 
@@ -32,12 +35,15 @@ __version__ = "0.2.0"
 
 __all__ = [
     "Algorithm",
+    "AskedKey",
     "Buffer",
+    "ChosenKey",
     "Claims",
     "ClaimsRefused",
     "Confirmation",
     "ConfirmationKey",
     "Ecdsa",
+    "Elsewhere",
     "Error",
     "Fed",
     "KeyTable",
@@ -48,10 +54,13 @@ __all__ = [
     "LibraryNotFound",
     "Maker",
     "Message",
+    "Mismatch",
     "Reason",
     "Refused",
     "Requirement",
     "Shape",
+    "Sign",
+    "Sign1Maker",
     "SignInput",
     "SignatureUnverified",
     "Status",
@@ -64,8 +73,12 @@ __all__ = [
     "claims",
     "count_keys",
     "ecdsa",
+    "ecdsa_signer",
+    "key_of",
     "make",
+    "mismatches",
     "shape",
+    "sign1",
     "verify",
     "verify_cwt",
     "verify_many",

@@ -72,9 +72,23 @@ cose_claims_set
     cose_date exp nbf iat
     cose_range cnf_kid cnf_x cnf_y
     u8 cnf_crv cnf_y_sign
+cose_pieces
+    u64 protected_length
+    u8 context_length protected_head_length aad_head_length payload_head_length
+    u8*12 context
+    u8*9 protected_head aad_head payload_head
+cose_chosen_key
+    i32 alg
+    u8 crv y_sign has_kid
+    bytes kid k x y
+cose_received_signature
+    u64 length
+    u8*132 signature
 cose_large_verifier
     address at
 cose_maker
+    address at
+cose_signer
     address at
 cose_table
     address at
@@ -89,6 +103,9 @@ cose_signature_input
 cose_item
     u64 at length content_at number
     u8 present major
+cose_key_fit
+    u8 status reason condition
+    u64 place
 cose_key_set
     u8 status reason
     u64 place usable
@@ -140,12 +157,29 @@ edge_claims bytes &cose_policy &cose_claims_set
 edge_large_claims bytes &cose_policy &cose_claims_set
 edge_audience bytes u64 &cose_range
 edge_next_audience bytes u64 &cose_range
+edge_large_open_elsewhere &cose_large_verifier bytes bytes u8 &cose_status
+edge_large_open_elsewhere_detached &cose_large_verifier bytes bytes u8 u64 &cose_status
+edge_large_front_pieces &cose_large_verifier room &cose_pieces -> u8
+edge_large_asked_key &cose_large_verifier &cose_chosen_key -> u8
+large_asked_signature &cose_large_verifier &cose_received_signature -> u8
+edge_large_verdict_of_mac &cose_large_verifier bytes &cose_message_verdict
+large_verdict_of_answer &cose_large_verifier u64 i32 &cose_message_verdict
+edge_open_elsewhere &cose_verifier bytes bytes u8 &cose_status
+edge_open_elsewhere_detached &cose_verifier bytes bytes u8 u64 &cose_status
+edge_front_pieces &cose_verifier room &cose_pieces -> u8
+edge_asked_key &cose_verifier &cose_chosen_key -> u8
+asked_signature &cose_verifier &cose_received_signature -> u8
+edge_verdict_of_mac &cose_verifier bytes &cose_message_verdict
+verdict_of_answer &cose_verifier u64 i32 &cose_message_verdict
 large_verifier_size -> usize
 large_verifier_align -> usize
 large_begin address
 maker_size -> usize
 maker_align -> usize
 maker_begin address
+signer_size -> usize
+signer_align -> usize
+signer_begin address
 table_size -> usize
 table_align -> usize
 table_begin address
@@ -155,6 +189,8 @@ begin address
 edge_claim bytes i64 &cose_item
 edge_claim_named bytes bytes &cose_item
 edge_item_at bytes u64 &cose_item
+edge_key_of &cose_terms bytes &cose_item
+edge_mismatch &cose_terms bytes u64 &cose_key_fit
 edge_read_keys bytes &cose_key_set
 edge_make &cose_maker i32 bytes bytes bytes u64 room &cose_made
 edge_make_piece &cose_maker bytes -> u64
@@ -169,6 +205,10 @@ edge_large_parameter u8 bytes u32 i64 &cose_item
 edge_parameter_named u8 bytes u32 bytes &cose_item
 edge_large_parameter_named u8 bytes u32 bytes &cose_item
 edge_shape u8 bytes &cose_message_shape
+edge_make_sign1 &cose_signer i32 bytes bytes u64 room &cose_made
+edge_make_sign1_piece &cose_signer bytes -> u64
+edge_make_sign1_digest &cose_signer room &cose_made
+edge_make_sign1_end &cose_signer bytes room &cose_made
 edge_large_open &cose_large_verifier bytes bytes u8 &cose_status
 edge_large_open_detached &cose_large_verifier bytes bytes u8 u64 &cose_status
 edge_large_feed &cose_large_verifier bytes &cose_fed
@@ -204,6 +244,7 @@ edge_header_named &cose_verifier u32 bytes room &cose_item
 edge_table_read &cose_table bytes &cose_key_set
 edge_table_verify &cose_table bytes u8 bytes &cose_message_verdict &cose_signature_input
 edge_table_verify_cwt &cose_table bytes &cose_policy bytes &cose_claims_set
+edge_wipe_bytes room
 """
 # end of what ci/edge_tables makes
 
@@ -316,6 +357,26 @@ class ItemStruct(ctypes.Structure):
     """`struct cose_item`"""
 
 
+@_struct("cose_key_fit")
+class KeyFitStruct(ctypes.Structure):
+    """`struct cose_key_fit`"""
+
+
+@_struct("cose_pieces")
+class FrontPiecesStruct(ctypes.Structure):
+    """`struct cose_pieces`"""
+
+
+@_struct("cose_chosen_key")
+class AskedKeyStruct(ctypes.Structure):
+    """`struct cose_chosen_key`"""
+
+
+@_struct("cose_received_signature")
+class AskedSignatureStruct(ctypes.Structure):
+    """`struct cose_received_signature`"""
+
+
 @_struct("cose_fed")
 class FedStruct(ctypes.Structure):
     """`struct cose_fed`"""
@@ -330,6 +391,7 @@ class MadeStruct(ctypes.Structure):
 @_struct("cose_large_verifier")
 @_struct("cose_table")
 @_struct("cose_maker")
+@_struct("cose_signer")
 class HandleStruct(ctypes.Structure):
     """`struct cose_verifier`, and the others that have the address of a block"""
 
@@ -448,8 +510,10 @@ class Block:
         self._lock.release()
 
     def close(self) -> None:
-        """Frees the memory, once no call uses it."""
+        """Overwrites the memory and frees it, once no call uses it."""
         with self._lock:
             if self._is_used:
                 raise RuntimeError(f"the {self._kind} is in use")
+            if self._memory is not None:
+                small.edge_wipe_bytes(self._memory, len(self._memory))
             self._memory = None

@@ -4,7 +4,7 @@ from __future__ import annotations
 
 import time
 from ctypes import byref, sizeof
-from typing import Iterable, NoReturn, Optional, Sequence
+from typing import Iterable, Optional, Sequence
 
 from . import _library
 from ._answers import Ecdsa, fail, is_good
@@ -18,10 +18,8 @@ from ._library import (
     VerdictStruct,
     small,
 )
-from .errors import Refused
 from .keys import Keys, data_of
-from .messages import Message
-from .reasons import Reason
+from .messages import Message, refuse_signature
 from .tokens import Claims, claims_of
 
 # what is permitted of keys where no algorithm is stated, and of tokens
@@ -81,6 +79,19 @@ class _Terms:
             it.understood[at] = label
 
 
+def terms_of(
+    keys: Keys,
+    kind: Kind,
+    algorithms: Optional[Iterable[int]],
+    least_secret: int,
+    short_mac: bool,
+    without_alg: bool,
+) -> _Terms:
+    """What a caller states of keys, for messages of one kind."""
+    stated = (algorithms, least_secret, short_mac, without_alg)
+    return _Terms(keys, b"", kind, *stated, (), None)
+
+
 def _requirements(
     now: Optional[int],
     leeway: int,
@@ -111,15 +122,6 @@ def _requirements(
     )
 
 
-def _refuse_signature(data: bytes, length: int) -> NoReturn:
-    """Raises the refusal of a message whose signature isn't good: its head is before its bytes."""
-    for width, first in ((2, 0x58), (3, 0x59), (5, 0x5A), (9, 0x5B)):
-        place = len(data) - length - width
-        if data[place] == first:
-            raise Refused(Reason.BadAuth, place)
-    raise AssertionError("a signature of an authentic message has a head")
-
-
 def _message(
     terms: _Terms, data: bytes, content: Optional[bytes], ecdsa: Optional[Ecdsa], large: bool
 ) -> Message:
@@ -132,12 +134,13 @@ def _message(
         calls.edge_authenticate_detached(stated, data, len(data), content, len(content), *answers)
     if verdict.status == Status.SIGNED:
         if not is_good(sign_input, ecdsa):
-            _refuse_signature(data, sign_input.signature_length)
+            refuse_signature(data, sign_input.signature_length)
     elif verdict.status != Status.AUTHENTIC:
         fail(verdict)
     if content is None:
         content = data[verdict.payload_at : verdict.payload_at + verdict.payload_length]
-    return Message(Kind(verdict.kind), Algorithm(verdict.alg), content, verdict.taken)
+    received = data, terms.struct.kind, large
+    return Message(Kind(verdict.kind), Algorithm(verdict.alg), content, verdict.taken, received)
 
 
 def authenticate(

@@ -12,8 +12,9 @@ from ._answers import Ecdsa, fail, is_good
 from ._arguments import Algorithm, Buffer, Kind, bytes_of, number_of, text_of, wanted_of
 from ._library import ItemStruct, ShapeStruct, SignInputStruct, Status, VerdictStruct, small
 from ._numbers import reader
+from .errors import Refused
 from .keys import Keys, KeyTable, data_of
-from .verifier import Verifier
+from .reasons import Reason
 
 
 class Label(IntEnum):
@@ -117,23 +118,16 @@ def _read_detached(
     return bytes(verdict) + bytes(sign_input)
 
 
-def _refuse_signature(
-    keys: Keys, aad: bytes, wanted: int, message: bytes, payload: Optional[bytes], large: bool
-) -> NoReturn:
-    """Raises what a message is refused with whose signature isn't good: the library has the place."""
-    with Verifier(
-        keys,
-        aad=aad,
-        wanted=Kind(wanted) if wanted else None,
-        payload_length=None if payload is None else len(payload),
-        ecdsa=lambda _: False,
-        large=large,
-    ) as verifier:
-        used = verifier.feed(message).used
-        verifier.feed_payload(payload or b"")
-        verifier.feed(message[used:])
-        verifier.verdict()
-    raise AssertionError("a message is authentic whose signature isn't good")
+def refuse_signature(message: bytes, length: int) -> NoReturn:
+    """Raises what a message is refused with whose signature of so many bytes isn't good.
+
+    The signature ends the message, and its head is before it: no byte is read again.
+    """
+    for width, first in ((2, 0x58), (3, 0x59), (5, 0x5A), (9, 0x5B)):
+        place = len(message) - length - width
+        if message[place] == first:
+            raise Refused(Reason.BadAuth, place)
+    raise AssertionError("a signature of an authentic message has a head")
 
 
 def shape(message: Buffer, *, wanted: Optional[Kind] = None) -> Shape:
@@ -175,8 +169,9 @@ def verify(
         found = _read_detached(keys, external, number, data, content, large)
     status, _, kind, alg, _, at, length, taken = _numbers_of(found)
     if status == _SIGNED:
-        if not is_good(SignInputStruct.from_buffer_copy(found, sizeof(VerdictStruct)), ecdsa):
-            _refuse_signature(keys, external, number, data, content, large)
+        sign_input = SignInputStruct.from_buffer_copy(found, sizeof(VerdictStruct))
+        if not is_good(sign_input, ecdsa):
+            refuse_signature(data, sign_input.signature_length)
     elif status != _AUTHENTIC:
         fail(VerdictStruct.from_buffer_copy(found))
     if content is None:

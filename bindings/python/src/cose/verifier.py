@@ -52,6 +52,15 @@ class Verdict:
     taken: int
 
 
+def _authentic(verdict: VerdictStruct) -> Verdict:
+    """What is said of an authentic message; any other verdict is raised."""
+    if verdict.status != Status.AUTHENTIC:
+        fail(verdict)
+    return Verdict(
+        Kind(verdict.kind), Algorithm(verdict.alg), verdict.payload_length, verdict.taken
+    )
+
+
 class Verifier:
     """Verifies messages that come in pieces, one after the other, in memory that doesn't grow.
 
@@ -66,6 +75,9 @@ class Verifier:
     ...     payload = b"".join(verifier.feed(piece).payload for piece in pieces)
     ...     verifier.verdict()
     """
+
+    # the calls that open a block: of a payload in the message, and of a detached one
+    _OPENING = ("edge_open", "edge_open_detached")
 
     def __init__(
         self,
@@ -90,10 +102,10 @@ class Verifier:
         status = StatusStruct()
         given = (self._keys, len(self._keys), self._aad, len(self._aad), wanted)
         if payload_length is None:
-            self._call("edge_open", *given, byref(status))
+            self._call(self._OPENING[0], *given, byref(status))
         else:
             length = number_of(payload_length, "payload_length", 0, 2**64 - 1)
-            self._call("edge_open_detached", *given, length, byref(status))
+            self._call(self._OPENING[1], *given, length, byref(status))
         # a refusal that is known now, of the length, is the message's: feed and verdict raise it
         if status.status not in (Status.MORE, Status.REFUSED):
             fail(status)
@@ -152,11 +164,7 @@ class Verifier:
             has_signature = self._calls.sign_input(handle, byref(sign_input)) == 1
             good = has_signature and is_good(sign_input, self._ecdsa)
             self._calls.verdict(handle, int(good), byref(verdict))
-        if verdict.status != Status.AUTHENTIC:
-            fail(verdict)
-        return Verdict(
-            Kind(verdict.kind), Algorithm(verdict.alg), verdict.payload_length, verdict.taken
-        )
+        return _authentic(verdict)
 
     def protected(self, label: Union[int, str]) -> Any:
         """A parameter of the protected header, once it is there, as `cose.Message.protected` gives it.

@@ -2,11 +2,14 @@
 
 mod adapter;
 mod items;
+mod json;
 mod messages;
 mod parameters;
 mod pieces;
 mod reasons;
+mod signing;
 mod sizes;
+mod stated;
 mod tokens;
 
 /// The bytes of hexadecimal digits.

@@ -3,8 +3,9 @@
 
 use crate::{hex, HI, JEFE};
 use cose::{
-    shape, verify_cwt, verify_detached, verify_with, Block, Error, MacAlg, Maker, Making, Options,
-    Policy, Reason, Status, Verifier, Wanted, HEAD_ROOM, TAIL_ROOM,
+    authenticate, authenticate_detached, parameter, shape, verify_cwt, verify_detached,
+    verify_with, Block, Bucket, Error, Label, MacAlg, Maker, Making, Options, Policy, Reason,
+    Status, Terms, Verifier, Wanted, HEAD_ROOM, TAIL_ROOM,
 };
 
 /// A message with the external data 01 02: 40.
@@ -30,16 +31,27 @@ fn options(aad: &[u8], wanted: Wanted) -> Options<'_> {
     Options { aad, wanted }
 }
 
-/// What became of a message in memory and in pieces, with its payload or with a detached one.
+/// What became of a message in memory, under terms that leave no key out too, and in pieces, with its payload or with a detached one.
 fn reason_of(message: &str, options: &Options<'_>, payload: Option<&[u8]>) -> Option<Reason> {
     let (keys, message) = (hex(JEFE), hex(message));
     let at_once = match payload {
         None => verify_with(&keys, options, &message).map(|_| ()),
         Some(payload) => verify_detached(&keys, options, &message, payload).map(|_| ()),
     };
+    let terms = Terms {
+        keys: &keys,
+        options: *options,
+        short_mac: true,
+        without_alg: true,
+        ..Terms::default()
+    };
+    let under_terms = match payload {
+        None => authenticate(&terms, &message).map(|_| ()),
+        Some(payload) => authenticate_detached(&terms, &message, payload).map(|_| ()),
+    };
     let fed = fed(&keys, &message, options, payload);
-    let reasons = [at_once, fed].map(|it| it.err().and_then(|error| error.reason()));
-    assert_eq!(reasons[0], reasons[1]);
+    let reasons = [at_once, under_terms, fed].map(|it| it.err().and_then(|error| error.reason()));
+    assert!(reasons.iter().all(|it| *it == reasons[0]), "{reasons:?}");
     reasons[0]
 }
 
@@ -92,6 +104,9 @@ fn the_kind() {
     let untagged = hex(&HI[2..]);
     assert!(shape(Wanted::Mac0, &untagged).is_ok());
     assert!(shape(Wanted::Tagged, &untagged).is_err());
+    let alg = |wanted| parameter(&untagged, wanted, Bucket::Protected, Label::ALG);
+    assert_eq!(alg(Wanted::Mac0).and_then(|it| it.as_int()), Some(5));
+    assert_eq!(alg(Wanted::Tagged), None);
 }
 
 #[test]

@@ -1,0 +1,165 @@
+// The rows of tokens under what a caller states and requires, those of SECURITY's checklist among them.
+
+package cose_test
+
+import (
+	"errors"
+	"fmt"
+	"strings"
+	"time"
+
+	"cose"
+)
+
+// ---- tokens under terms and requirements
+
+func (g *group) terms(large bool) (*cose.Terms, error) {
+	terms := &cose.Terms{
+		Options:     cose.Options{AAD: g.AAD, Wanted: kinds[g.Wanted], Large: large},
+		Algorithms:  g.Algorithms,
+		LeastSecret: g.LeastSecret,
+		ShortMAC:    g.ShortMAC,
+		WithoutAlg:  g.WithoutAlg,
+	}
+	if g.PayloadLimit != nil {
+		terms.PayloadLimit = *g.PayloadLimit
+	}
+	for _, label := range g.Understood {
+		number, is := label.(float64)
+		if !is {
+			return nil, leftOut("a label that is a text is understood")
+		}
+		terms.Understood = append(terms.Understood, int64(number))
+	}
+	return terms, nil
+}
+
+// durationOf is a number of seconds.
+func durationOf(text *string) time.Duration {
+	if text == nil {
+		return 0
+	}
+	return time.Duration(number(*text).Int64()) * time.Second
+}
+
+func (g *group) requirements() *cose.Requirements {
+	requirements := &cose.Requirements{
+		CurrentTime: time.Unix(number(*g.Now).Int64(), 0),
+		Leeway:      time.Duration(g.Leeway) * time.Second,
+		Issuer:      g.Iss,
+		Subject:     g.Sub,
+		Audience:    g.Aud,
+		MaxLifetime: durationOf(g.Lifetime),
+		MaxAge:      durationOf(g.Age),
+		WithoutExp:  g.WithoutExp,
+	}
+	for _, name := range g.Present {
+		for claim := cose.ClaimIss; claim <= cose.ClaimCti; claim++ {
+			if cose.Requirement(claim).String() == name {
+				requirements.Present = append(requirements.Present, claim)
+			}
+		}
+	}
+	return requirements
+}
+
+// required is the answer for claims, or which requirement they don't meet.
+func required(claims *cose.Claims, err error) string {
+	var unmet *cose.Unmet
+	if errors.As(err, &unmet) {
+		return fmt.Sprintf("unmet %v %d", unmet.Requirement, unmet.Place)
+	}
+	return admitted(claims, err)
+}
+
+// wanted is the answer of a row under terms and requirements.
+func (r *result) wanted() string {
+	switch r.Verdict {
+	case "admitted":
+		return "claims " + wantedClaims(r.Claims)
+	case "unmet":
+		name := r.Claim
+		if name == "" {
+			name = strings.ToLower(r.Requirement)
+		}
+		return fmt.Sprintf("unmet %s %d", name, r.Place)
+	case "accepted", "dropped":
+		return r.Verdict
+	}
+	return r.refusal(strings.ReplaceAll(r.Verdict, " message", ""))
+}
+
+func runTerms(g *group, r *row) error {
+	wanted := r.Result.wanted()
+	for _, large := range []bool{false, true} {
+		terms, err := g.terms(large)
+		if err != nil {
+			return err
+		}
+		if err = differs("Admit", required(cose.Admit(g.Keys, r.Token, g.requirements(), terms)), wanted); err != nil {
+			return err
+		}
+		message, err := cose.Authenticate(g.Keys, r.Token, terms)
+		seen := ""
+		if err != nil {
+			seen = refusal(err)
+		} else {
+			seen = required(cose.AdmitClaims(message.Payload, g.requirements(), large))
+		}
+		if err = differs("Authenticate and AdmitClaims", seen, wanted); err != nil {
+			return err
+		}
+	}
+	return nil
+}
+
+// ---- the lines of SECURITY's checklist
+
+// hasParameters says whether the buckets have the parameters without which the caller drops a message.
+func (g *group) hasParameters(message []byte, options *cose.Options) bool {
+	for bucket, labels := range map[cose.Bucket][]int64{cose.Protected: g.Protected, cose.Unprotected: g.Unprotected} {
+		for _, label := range labels {
+			if _, err := cose.Parameter(message, bucket, label, options); err != nil {
+				return false
+			}
+		}
+	}
+	return true
+}
+
+// checked is what a caller who follows the checklist makes of a message: the safe calls, with what it states.
+func (g *group) checked(r *row, large bool) (string, error) {
+	terms, err := g.terms(large)
+	if err != nil {
+		return "", err
+	}
+	terms.ECDSA = r.ecdsa
+	if r.Payload != nil {
+		_, err = cose.AuthenticateDetached(g.Keys, r.Token, r.Payload, terms)
+	} else {
+		_, err = cose.Admit(g.Keys, r.Token, g.requirements(), terms)
+	}
+	switch {
+	case err != nil:
+		return required(nil, err), nil
+	case g.hasParameters(r.Token, &terms.Options):
+		return "accepted", nil
+	}
+	return "dropped", nil
+}
+
+func runChecklist(g *group, r *row) error {
+	for _, large := range []bool{false, true} {
+		if large && r.Result.Reason == "PastRoom" {
+			continue
+		}
+		seen, err := g.checked(r, large)
+		if err != nil {
+			return err
+		}
+		if err = differs(fmt.Sprintf("line %d", g.Line), seen, r.Result.wanted()); err != nil {
+			return err
+		}
+	}
+	return nil
+}
