@@ -44,6 +44,7 @@ function refusedWords(request, answer, refusal) {
     const { picture } = answer;
     const [clause, ...sentences] = refusalWords({ where: "message", request, picture, refusal });
     if (!request.keys) sentences.push("No key was looked at.");
+    if (answer.keys.some((it) => it.state === "left out")) sentences.push("One that would isn't allowed by what is stated of keys.");
     const phase = phaseOf(refusal, picture);
     const where = refusal.reason === TRAILING ? "after phase 13" : `phase ${phase} of 13: ${PHASES[phase - 1]}`;
     return {
@@ -74,12 +75,31 @@ function authenticWords(request, answer, kind) {
     const { claims, picture } = answer;
     if (!claims) return { tone: "good", title: "Authentic", sentences: [how, payload] };
     if (claims.status === STATUS.AUTHENTIC) {
-        return { tone: "good", title: "Authentic, and admitted as a token", sentences: [admittedText(claims, request.policy.now), how] };
+        return { tone: "good", title: "Authentic, and admitted as a token", sentences: [admittedText(claims, request.requirements.now), how] };
     }
-    const [clause, ...sentences] = refusalWords({ where: "claims", request, picture, refusal: claims });
+    return notAdmittedWords(request, picture, claims, how);
+}
+
+/**
+ * An authentic token whose claims are refused, or don't meet what is required.
+ * @param {Inquiry} request
+ * @param {Picture} picture
+ * @param {Claims} claims
+ * @param {string} how it is authentic
+ * @returns {Words}
+ */
+function notAdmittedWords(request, picture, claims, how) {
+    const refusal = /** @type {const} */ ({ where: "claims" });
+    const isUnmet = claims.status === STATUS.UNMET;
+    const it = { ...refusal, request, picture, refusal: claims };
+    const [clause, ...sentences] = isUnmet ? unmetWords(it) : refusalWords(it);
+    const name = isUnmet ? `Unmet ${Stated.UNMET[claims.reason]}` : reasonOf(claims.reason).name;
+    const words = /** @type {const} */ ({ tone: "bad", title: `Authentic, but refused: ${clause}` });
+    // a requirement of a claim that isn't there has no place
+    if (isUnmet && claims.place === 0) return { ...words, sentences: [...sentences, how], technical: `${name}, a claim that isn't there` };
     const place = (picture.payload?.from ?? 0) + claims.place;
-    const technical = `${reasonOf(claims.reason).name} at byte ${place}, which is byte ${claims.place} of the payload`;
-    return { tone: "bad", title: `Authentic, but refused: ${clause}`, sentences: [...sentences, how], technical, fault: { place, what: `${clause}.` } };
+    const technical = `${name} at byte ${place}, which is byte ${claims.place} of the payload`;
+    return { ...words, sentences: [...sentences, how], technical, fault: { place, what: `${clause}.` } };
 }
 
 /**
@@ -152,13 +172,48 @@ function showNotation(host, message, picture) {
 }
 
 /**
- * @param {HTMLElement} host
- * @param {Picture} picture
+ * The label of a pair as the library is asked for it, where it can be.
+ * @param {Item} label
  */
-function showHeaders(host, picture) {
-    const buckets = /** @type {const} */ ([["protected", picture.protectedMap], ["unprotected", picture.unprotectedMap]]);
+function labelAsked(label) {
+    if (label.type === "text") return textOf(label.bytes);
+    return label.type === "integer" && BigInt.asIntN(64, label.number) === label.number ? label.number : undefined;
+}
+
+/** The library reads a map anew for each label: one up to so many bytes. */
+const SHORT_MAP = 1024;
+
+/**
+ * The value of a label as the library hands it out, of an authentic message; what this page reads of a message that isn't, and of a
+ * longer map.
+ * @param {Answer} answer
+ * @param {Item} map
+ * @param {{label: Item, value: Item}} pair
+ * @param {(label: bigint | string) => Uint8Array | undefined} ask
+ */
+function valueHandedOut(answer, map, { label, value }, ask) {
+    const isAsked = answer.state === "authentic" && map.end - map.at <= SHORT_MAP;
+    const asked = isAsked ? labelAsked(label) : undefined;
+    const bytes = asked === undefined ? undefined : ask(asked);
+    return bytes ? (wholeItem(bytes) ?? value) : value;
+}
+
+/**
+ * @param {HTMLElement} host
+ * @param {Inquiry} request
+ * @param {Answer} answer
+ */
+function showHeaders(host, { message, terms: { wanted } }, answer) {
+    const { protectedMap, unprotectedMap } = answer.picture;
+    const buckets = /** @type {const} */ ([["protected", protectedMap], ["unprotected", unprotectedMap]]);
     const rows = buckets.flatMap(([bucket, map]) =>
-        (map ? pairsOf(map) : []).map(({ label, value }) => () => [headerName(label) ?? "not registered here", diagnostic(label), code(diagnostic(value)), headerNote(label, value) ?? "", bucket]),
+        (map ? pairsOf(map) : []).map((pair) => () => {
+            /** @param {bigint | string} label */
+            const ask = (label) => state.cose?.parameter(message, label, { protected: bucket === "protected", wanted, large: true });
+            const value = map ? valueHandedOut(answer, map, pair, ask) : pair.value;
+            const { label } = pair;
+            return [headerName(label) ?? "not registered here", diagnostic(label), code(diagnostic(value)), headerNote(label, value) ?? "", bucket];
+        }),
     );
     if (!rows.length) return host.replaceChildren(element("p", {}, "There are none that could be read."));
     host.replaceChildren(...shortTable("Header parameters", ["Name", "Label", "Value", "Meaning", "Bucket"], rows));
@@ -179,17 +234,25 @@ function showPayload(host, request, answer) {
         return host.replaceChildren(...(isAuthentic ? [] : caution), element("p", {}, `The payload is detached. ${file}`));
     }
     if (!picture.payload) return host.replaceChildren(element("p", {}, "There is none that could be read."));
-    if (picture.claims) return host.replaceChildren(...caution, ...claimsTable(picture.claims, request.policy.now));
+    if (picture.claims) return host.replaceChildren(...caution, ...claimsTable(picture.claims, request, answer));
     const bytes = request.message.subarray(picture.payload.from, picture.payload.to);
     return host.replaceChildren(...caution, ...payloadTexts(bytes));
 }
 
 /**
  * @param {Item} claims
- * @param {bigint} now
+ * @param {Inquiry} request
+ * @param {Answer} answer
  */
-function claimsTable(claims, now) {
-    const rows = pairsOf(claims).map(({ label, value }) => () => [claimTitle(label), diagnostic(label), code(diagnostic(value)), claimMeaning(label, value, now)]);
+function claimsTable(claims, { message, requirements: { now } }, answer) {
+    const payload = message.subarray(answer.picture.payload?.from ?? 0, answer.picture.payload?.to ?? 0);
+    /** @param {bigint | string} label */
+    const ask = (label) => state.cose?.claim(payload, label);
+    const rows = pairsOf(claims).map((pair) => () => {
+        // those of claims that the library read alone
+        const value = answer.claims ? valueHandedOut(answer, claims, pair, ask) : pair.value;
+        return [claimTitle(pair.label), diagnostic(pair.label), code(diagnostic(value)), claimMeaning(pair.label, value, now)];
+    });
     return shortTable("Claims", ["Name", "Label", "Value", "Meaning"], rows);
 }
 
@@ -245,6 +308,7 @@ function payloadTexts(bytes) {
 const KEY_STATES = new Map([
     ["chosen", "chosen"],
     ["fits", "fits"],
+    ["left out", "left out"],
     ["other", "doesn't fit"],
     ["unusable", "not usable"],
     ["unasked", "not asked"],

@@ -10,6 +10,7 @@
  * @property {string} keys
  * @property {string} now
  * @property {() => File} [payload]
+ * @property {("short_mac" | "without_alg")[]} [permits] what the page has to allow of the keys, though it is unsafe
  */
 
 /** The firmware of the example: 65,536 bytes. */
@@ -24,12 +25,13 @@ const EXAMPLES = [
         name: "COSE_Mac0",
         about: "A MAC under a shared key, and a payload of two bytes.",
         message: "d18443a10105a042686958207d81e964aaee5fbd8adfb3f533657a9ef9f782f04b91877b6004272a0352f960",
-        keys: "a2010420444a656665",
+        keys: "a30104030520444a656665",
         now: "",
     },
     {
         name: "COSE_Sign1",
-        about: "The signature of RFC 9052 appendix C.2.1, by ECDSA on P-256.",
+        about: "The signature of RFC 9052 appendix C.2.1, by ECDSA on P-256. The standard's key names no algorithm, which is allowed here.",
+        permits: ["without_alg"],
         message: [
             "d28443a10126a10442313154546869732069732074686520636f6e74656e742e58408eb33e4ca31d1c465ab05aac34cc6b23",
             "d58fef5c083106c4d25a91aef0b0117e2af9a291aa32e14ab834dc56ed2a223444547e01f11d3b0916e5a4c345cacb36",
@@ -42,7 +44,8 @@ const EXAMPLES = [
     },
     {
         name: "Token",
-        about: "The token of RFC 8392 appendix A.4 at a time at which it was valid, and three keys.",
+        about: "The token of RFC 8392 appendix A.4 at a time at which it was valid, and three keys. Its tag is short, which is allowed here.",
+        permits: ["short_mac"],
         message: [
             "d83dd18443a10104a1044c53796d6d65747269633235365850a70175636f61703a2f2f61732e6578616d706c652e636f6d02",
             "656572696b77037818636f61703a2f2f6c696768742e6578616d706c652e636f6d041a5612aeb0051a5610d9f0061a5610d9",
@@ -59,6 +62,7 @@ const EXAMPLES = [
     {
         name: "Expired token",
         about: "The same token now.",
+        permits: ["short_mac"],
         message: [
             "d83dd18443a10104a1044c53796d6d65747269633235365850a70175636f61703a2f2f61732e6578616d706c652e636f6d02",
             "656572696b77037818636f61703a2f2f6c696768742e6578616d706c652e636f6d041a5612aeb0051a5610d9f0061a5610d9",
@@ -75,6 +79,7 @@ const EXAMPLES = [
     {
         name: "Changed token",
         about: "The same token at that time, for another subject: one byte was changed.",
+        permits: ["short_mac"],
         message: [
             "d83dd18443a10104a1044c53796d6d65747269633235365850a70175636f61703a2f2f61732e6578616d706c652e636f6d02",
             "656572696b78037818636f61703a2f2f6c696768742e6578616d706c652e636f6d041a5612aeb0051a5610d9f0061a5610d9",
@@ -105,7 +110,8 @@ const EXAMPLES = [
     },
     {
         name: "Firmware, detached",
-        about: "A signature by ECDSA on P-384 over a file of 65,536 bytes, and the public key in PEM.",
+        about: "A signature by ECDSA on P-384 over a file of 65,536 bytes, and the public key in PEM, which names no algorithm: that is allowed here.",
+        permits: ["without_alg"],
         message: [
             "d284581fa20138220378186170706c69636174696f6e2f6f637465742d73747265616da1044766772d32303236f6586034ba",
             "aeb63e04703117889f4eb5d91292474297fa22d916ad2d6c60ce44129758fa63de19259e679478daa30034f5060af28752b5",
@@ -147,7 +153,8 @@ X4VuW4qfOOZqlZvXZJ7vLvdQwAPK9iJO
       "crv": "P-256",
       "use": "sig",
       "x": "XzqGL8x_Q6t8fUBN0TeQlE4Z5fzV-hX8S_v0MXxyGAg",
-      "y": "mKkZYzaQy8A4FEfYp4qHAq7Ob3evXmhpZFEiTPZQec8"
+      "y": "mKkZYzaQy8A4FEfYp4qHAq7Ob3evXmhpZFEiTPZQec8",
+      "alg": "ES256"
     }
   ]
 }`,

@@ -48,10 +48,61 @@ function checked(id, read) {
 function timeFrom(text) {
     const given = text.trim();
     if (given === "") return BigInt(Math.floor(Date.now() / 1000));
+    if (/^-?0+$/.test(given)) throw new BadInput("The time 0 is none.");
     if (/^-?\d{1,18}$/.test(given)) return BigInt(given);
     const date = Date.parse(`${given.replace(" ", "T").replace(/(Z| *UTC)$/i, "")}Z`);
     if (Number.isNaN(date)) throw new BadInput("It is neither a number of seconds nor a date.");
     return BigInt(Math.floor(date / 1000));
+}
+
+/**
+ * A number of a field, from one on, if it has one.
+ * @param {string} id
+ * @param {bigint} least
+ */
+function numberFrom(id, least) {
+    const given = valueIn(id).trim();
+    if (given === "") return undefined;
+    if (!/^\d{1,20}$/.test(given) || BigInt(given) < least || BigInt(given) >= 2n ** 64n) throw new BadInput(`It isn't a whole number from ${least} on.`);
+    return BigInt(given);
+}
+
+/** @param {string} id */
+const isChecked = (id) => /** @type {HTMLInputElement} */ (byId(id)).checked;
+
+/**
+ * The boxes of a name.
+ * @param {string} name
+ * @returns {HTMLInputElement[]}
+ */
+const boxes = (name) => [...document.querySelectorAll(`#inputs input[name=${name}]`)].map((it) => /** @type {HTMLInputElement} */ (it));
+
+/** @param {string} name */
+const chosen = (name) => boxes(name).filter((it) => it.checked).map((it) => it.value);
+
+/**
+ * What keys have to be.
+ * @returns {Terms | undefined}
+ */
+function termsOf() {
+    const algorithms = chosen("algorithm").map(Number);
+    const least = checked("least_secret", () => ({ leastSecret: numberFrom("least_secret", 0n) ?? 0 }));
+    return least && { ...least, algorithms: algorithms.length ? algorithms : undefined, shortMac: isChecked("short_mac"), withoutAlg: isChecked("without_alg") };
+}
+
+/**
+ * What a token has to have.
+ * @returns {Requirements & {now: bigint, leeway: number} | undefined}
+ */
+function requirementsOf() {
+    const now = checked("now", () => timeFrom(valueIn("now")));
+    const lifetime = checked("max_lifetime", () => ({ maxLifetime: numberFrom("max_lifetime", 1n) }));
+    const age = checked("max_age", () => ({ maxAge: numberFrom("max_age", 1n) }));
+    if (now === undefined || !lifetime || !age) return undefined;
+    const leeway = Math.min(2 ** 32 - 1, Math.max(0, Math.floor(Number(valueIn("leeway")) || 0)));
+    const present = chosen("present");
+    const [issuer, subject, audience] = ["issuer", "subject", "audience"].map((id) => valueIn(id) || undefined);
+    return { now, leeway, issuer, subject, audience, present, withoutExp: !present.includes("exp"), ...lifetime, ...age };
 }
 
 /** @returns {Inquiry | undefined} */
@@ -59,11 +110,10 @@ function requestOf() {
     const message = state.message ?? checked("message", () => bytesFrom(valueIn("message"), "message"));
     const keys = checked("keys", () => (valueIn("keys").trim() ? keysFrom(valueIn("keys")) : NOTHING));
     const aad = checked("aad", () => hexadecimal(valueIn("aad")) ?? badHexadecimal());
-    const now = checked("now", () => timeFrom(valueIn("now")));
-    if (!message?.length || !keys || !aad || now === undefined) return undefined;
-    const audience = valueIn("audience") || undefined;
-    const policy = { now, leeway: Math.min(2 ** 32 - 1, Math.max(0, Math.floor(Number(valueIn("leeway")) || 0))), audience };
-    return { message, keys: keys.length ? keys : undefined, aad, wanted: Number(valueIn("wanted")), payload: state.payload, policy };
+    const [terms, requirements] = [termsOf(), requirementsOf()];
+    if (!message?.length || !keys || !aad || !terms || !requirements) return undefined;
+    const wanted = Number(valueIn("wanted"));
+    return { message, keys: keys.length ? keys : undefined, terms: { ...terms, aad, wanted }, payload: state.payload, requirements };
 }
 
 /** @returns {never} */
@@ -117,8 +167,10 @@ function hideDetails() {
 
 function showNothing() {
     const faults = [...document.querySelectorAll("#inputs .fault")].filter((it) => it.textContent);
-    const more = /** @type {HTMLDetailsElement} */ (byId("more"));
-    more.open ||= faults.some((it) => more.contains(it));
+    for (const it of document.querySelectorAll("#inputs details")) {
+        const more = /** @type {HTMLDetailsElement} */ (it);
+        more.open ||= faults.some((fault) => more.contains(fault));
+    }
     if (faults.length) showVerdict("unknown", "No answer yet", faults.map((it) => it.textContent ?? ""));
     else showVerdict("none", "No message yet", ["Paste one, drop a file, or choose an example."]);
     byId("answer").dataset.number = String(state.number);
@@ -150,12 +202,17 @@ function show(request, answer) {
     new BytesView(byId("bytes"), request.message, answer.picture, words.fault);
     showNotation(byId("notation"), request.message, answer.picture);
     showPhases(byId("phases"), answer);
-    showHeaders(byId("headers"), answer.picture);
+    showHeaders(byId("headers"), request, answer);
     showPayload(byId("payload"), request, answer);
     showKeys(byId("key_list"), answer.keys);
 }
 
 // ---- inputs
+
+/** The fields of what a caller states, whose first value is nothing or 0. */
+const STATED_FIELDS = ["least_secret", "issuer", "subject", "audience", "max_lifetime", "max_age", "leeway", "aad", "wanted"];
+/** The boxes of what is allowed though it is unsafe. */
+const PERMITTED = /** @type {const} */ (["short_mac", "without_alg"]);
 
 /** @param {Example} example */
 function showExample(example) {
@@ -164,10 +221,14 @@ function showExample(example) {
     for (const id of ["message", "keys", "now"]) {
         /** @type {HTMLInputElement} */ (byId(id)).value = example[/** @type {"message" | "keys" | "now"} */ (id)];
     }
-    for (const [id, value] of [["aad", ""], ["audience", ""], ["leeway", "0"], ["wanted", "0"]]) {
-        /** @type {HTMLInputElement} */ (byId(id)).value = value;
+    for (const id of STATED_FIELDS) {
+        const input = /** @type {HTMLInputElement | HTMLSelectElement} */ (byId(id));
+        input.value = input instanceof HTMLSelectElement || id === "leeway" || id === "least_secret" ? "0" : "";
     }
+    for (const box of [...boxes("algorithm"), ...boxes("present")]) box.checked = box.defaultChecked;
+    for (const id of PERMITTED) /** @type {HTMLInputElement} */ (byId(id)).checked = example.permits?.includes(id) ?? false;
     /** @type {HTMLDetailsElement} */ (byId("more")).open = example.now !== "";
+    /** @type {HTMLDetailsElement} */ (byId("keys_used")).open = example.permits !== undefined;
     byId("example_about").hidden = false;
     byId("example_about").textContent = example.about;
     showNames();
@@ -222,7 +283,8 @@ function runSoon() {
 
 function listen() {
     byId("inputs").addEventListener("submit", (event) => event.preventDefault());
-    for (const id of ["message", "keys", "now", "leeway", "audience", "aad", "wanted"]) byId(id).addEventListener("input", runSoon);
+    for (const id of ["message", "keys", "now", ...STATED_FIELDS, ...PERMITTED]) byId(id).addEventListener("input", runSoon);
+    for (const box of [...boxes("algorithm"), ...boxes("present")]) box.addEventListener("input", runSoon);
     byId("message").addEventListener("input", () => {
         state.message = undefined;
         showNames();

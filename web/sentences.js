@@ -65,7 +65,7 @@ function dateIn({ picture }, label) {
 
 /** @param {Refusal} it */
 function expiredWords(it) {
-    const [exp, { now, leeway }] = [dateIn(it, 4), it.request.policy];
+    const [exp, { now, leeway }] = [dateIn(it, 4), it.request.requirements];
     if (exp === undefined) return ["it has expired"];
     const after = leeway ? ` The leeway of ${leeway.toLocaleString("en")} seconds is over too.` : "";
     return [`it expired ${relativeText(exp, now)}`, `It expired at ${momentText(exp, now)}.${after}`];
@@ -73,7 +73,7 @@ function expiredWords(it) {
 
 /** @param {Refusal} it */
 function notYetWords(it) {
-    const [nbf, { now }] = [dateIn(it, 5), it.request.policy];
+    const [nbf, { now }] = [dateIn(it, 5), it.request.requirements];
     if (nbf === undefined) return ["it isn't valid yet"];
     return ["it isn't valid yet", `It is valid from ${momentText(nbf, now)}.`];
 }
@@ -81,7 +81,7 @@ function notYetWords(it) {
 /** @param {Refusal} it */
 function audienceWords({ request, picture }) {
     const aud = picture.claims && valueOf(picture.claims, 3);
-    return ["it is for another audience", `It is for ${aud ? diagnostic(aud) : "another"}, and ${quoted(request.policy.audience ?? "")} is asked.`];
+    return ["it is for another audience", `It is for ${aud ? diagnostic(aud) : "another"}, and ${quoted(request.requirements.audience ?? "")} is asked.`];
 }
 
 /**
@@ -122,7 +122,7 @@ function tooDeepWords({ where, request }) {
 /** @param {Refusal} it */
 function wrongTagWords({ request, picture }) {
     if (isUntagged(picture)) return ["it has no tag that says what it is", "Is it a COSE_Mac0, of a shared secret, or a COSE_Sign1, of a signature?"];
-    const kind = request.wanted ? "the kind that is chosen" : "a COSE_Mac0 or a COSE_Sign1";
+    const kind = request.terms.wanted ? "the kind that is chosen" : "a COSE_Mac0 or a COSE_Sign1";
     return [`its tag isn't that of ${kind}`];
 }
 
@@ -195,6 +195,32 @@ const SENTENCES = Object.freeze({
     Trailing: ["something follows it", "After the last byte of the message there should be nothing."],
     Attached: ["its payload is inside already", "Remove the file: only a message without a payload takes one."],
 });
+
+/** What is said of a claim that isn't there, and of one that doesn't meet a requirement, by its label. */
+const CLAIM_OF_UNMET = new Map([["issuer", 1], ["subject", 2], ["audience", 3], ["lifetime", 4], ["age", 6], ["issued", 6]]);
+
+/** @type {Readonly<Record<string, (it: Refusal, value: Item) => string[]>>} */
+const UNMET_SENTENCES = Object.freeze({
+    issuer: ({ request }, value) => ["it is from another issuer", `It is from ${diagnostic(value)}, and ${quoted(request.requirements.issuer ?? "")} is asked.`],
+    subject: ({ request }, value) => ["it is about another subject", `It is about ${diagnostic(value)}, and ${quoted(request.requirements.subject ?? "")} is asked.`],
+    audience: audienceWords,
+    lifetime: ({ request }) => ["it lasts too long", `At most ${spanText(BigInt(request.requirements.maxLifetime ?? 0))} are allowed.`],
+    age: ({ request }) => ["it is too old", `At most ${spanText(BigInt(request.requirements.maxAge ?? 0))} are allowed.`],
+    issued: () => ["it is issued in the future", "So its age isn't known."],
+});
+
+/**
+ * A requirement that claims don't meet: a clause, and sentences.
+ * @param {Refusal} it
+ * @returns {string[]}
+ */
+function unmetWords(it) {
+    const name = Stated.UNMET[it.refusal.reason];
+    const label = CLAIM_OF_UNMET.get(name) ?? it.refusal.reason;
+    const value = it.picture.claims && valueOf(it.picture.claims, label);
+    if (value && UNMET_SENTENCES[name]) return UNMET_SENTENCES[name](it, value);
+    return [label === 4 ? "it never expires" : `it has no ${CLAIM_NAMES.get(label)}`, `The claim ${CLAIM_NAMES.get(label)} has to be there.`];
+}
 
 /**
  * A refusal: a clause, and sentences.

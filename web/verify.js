@@ -7,16 +7,16 @@
  * @typedef {object} Inquiry
  * @property {Uint8Array} message
  * @property {Uint8Array} [keys]
- * @property {Uint8Array} aad
- * @property {number} wanted of WANTED
+ * @property {Terms & {aad: Uint8Array, wanted: number}} terms
  * @property {Blob} [payload] a detached payload
- * @property {{now: bigint, leeway: number, audience?: string}} policy
+ * @property {Requirements & {now: bigint, leeway: number}} requirements
  */
 
 /**
  * @typedef {object} KeyAnswer
  * @property {Item} item
- * @property {"chosen" | "fits" | "other" | "unusable" | "unasked"} state
+ * @property {"chosen" | "fits" | "left out" | "other" | "unusable" | "unasked"} state
+ * @property {Uint8Array} bytes
  * @property {string} [why]
  */
 
@@ -48,17 +48,17 @@ class Stale extends Error {}
  * @returns {Promise<Answer>}
  */
 async function answerTo(cose, request, progress) {
-    const picture = pictureOf(request.message, request.wanted);
+    const picture = pictureOf(request.message, request.terms.wanted);
     /** @type {Answer} */
     const answer = { picture, state: "no keys", alg: 0, payloadLength: 0, taken: 0, keys: [] };
     if (!request.keys) return withShape(cose, request, answer);
     const keySet = cose.readKeys(request.keys);
     if (keySet.status !== STATUS.COMPLETE) return { ...answer, state: "keys refused", refusal: keySet };
+    answer.keys = keyAnswers(cose, request, picture);
     const decided = await verdictOn(cose, request, progress, answer);
-    decided.keys = keyAnswers(cose, request, picture);
     if (decided.state === "authentic" && picture.payload && isToken(picture)) {
         const payload = request.message.subarray(picture.payload.from, picture.payload.to);
-        decided.claims = cose.claims(payload, { ...request.policy, large: true });
+        decided.claims = cose.admitClaims(payload, { ...request.requirements, large: true });
     }
     return decided;
 }
@@ -79,15 +79,16 @@ function isToken({ isCwt, isDetached, claims }) {
  * @param {Answer} answer
  * @returns {Answer}
  */
-function withShape(cose, { message, wanted }, answer) {
-    const shape = cose.shape(message, { wanted });
+function withShape(cose, { message, terms }, answer) {
+    const shape = cose.shape(message, { wanted: terms.wanted });
     const isDetached = answer.picture.isDetached && reasonOf(shape.reason).name === "Detached";
     if (shape.status === STATUS.COMPLETE || isDetached) return { ...answer, taken: shape.taken, payloadLength: shape.payloadLength };
     return { ...answer, state: "refused", refusal: shape };
 }
 
 /**
- * The verdict, by a verifier that is fed: of a message in memory, and a detached payload in pieces.
+ * The verdict under the terms: of a message in memory by one call; of one with a detached payload that call chooses the key, and a
+ * verifier with this key alone is fed.
  * @param {Cose} cose
  * @param {Inquiry} request
  * @param {(done: number, total: number) => boolean} progress
@@ -95,21 +96,45 @@ function withShape(cose, { message, wanted }, answer) {
  * @returns {Promise<Answer>}
  */
 async function verdictOn(cose, request, progress, answer) {
-    const { message, keys, aad, wanted, payload } = request;
+    const keys = /** @type {Uint8Array} */ (request.keys);
+    const detached = request.payload ? { payload: NOTHING } : {};
+    const verdict = cose.authenticate(keys, request.message, { ...request.terms, large: true, ...detached });
+    const { status, reason, input } = verdict;
+    const found = { ...answer, alg: verdict.alg, payloadLength: verdict.payloadLength, taken: verdict.taken };
+    if (status !== STATUS.REFUSED && status !== STATUS.AUTHENTIC && status !== STATUS.SIGNED) return { ...answer, state: "fault", fault: faultOf(status) };
+    const chosen = answer.keys.find((it) => it.state === "chosen");
+    if (request.payload && chosen && (status !== STATUS.REFUSED || reason === BAD_AUTH)) return fed(cose, request, chosen.bytes, progress, answer);
+    if (status === STATUS.REFUSED) return { ...answer, state: "refused", refusal: verdict };
+    if (status === STATUS.AUTHENTIC || !input) return { ...found, state: "authentic" };
+    const isSignatureGood = await signatureHolds(request, input, answer.picture);
+    if (isSignatureGood === true) return { ...found, isSignatureGood, state: "authentic" };
+    const place = answer.picture.parts.find((it) => it.group === "auth")?.from ?? 0;
+    return { ...found, isSignatureGood, state: "refused", refusal: { reason: BAD_AUTH, place } };
+}
+
+/**
+ * The verdict by a verifier that is fed: a message in memory, and its detached payload in pieces.
+ * @param {Cose} cose
+ * @param {Inquiry} request
+ * @param {Uint8Array} key
+ * @param {(done: number, total: number) => boolean} progress
+ * @param {Answer} answer
+ * @returns {Promise<Answer>}
+ */
+async function fed(cose, request, key, progress, answer) {
+    const { message, terms } = request;
+    const payload = /** @type {Blob} */ (request.payload);
     const verifier = new Verifier(cose, { large: true });
     try {
-        const opened = verifier.open(/** @type {Uint8Array} */ (keys), { aad, wanted, payloadLength: payload?.size });
+        const { aad, wanted } = terms;
+        const opened = verifier.open(key, { aad, wanted, payloadLength: payload.size });
         if (opened.status !== STATUS.MORE) return { ...answer, state: "fault", fault: faultOf(opened.status) };
-        let fed = verifier.feed(message);
-        let used = fed.used;
-        if (payload && fed.status === STATUS.PAYLOAD_NEXT) {
-            await feedFile(verifier, payload, progress);
-            fed = verifier.feed(message.subarray(used));
-            used += fed.used;
-        }
-        const last = fed.status === STATUS.MORE || fed.status === STATUS.PAYLOAD_NEXT ? verifier.end() : fed;
+        const first = verifier.feed(message);
+        await feedFile(verifier, payload, progress);
+        const rest = verifier.feed(message.subarray(first.used));
+        const last = rest.status === STATUS.MORE ? verifier.end() : rest;
         if (last.status !== STATUS.COMPLETE) return { ...answer, state: "refused", refusal: last };
-        return await decided(verifier, request, used, answer);
+        return await decided(verifier, request, first.used + rest.used, answer);
     } finally {
         verifier.close();
     }
@@ -140,12 +165,7 @@ async function feedFile(verifier, file, progress) {
  */
 async function decided(verifier, request, used, answer) {
     const input = verifier.signInput();
-    let isSignatureGood;
-    if (input) {
-        // WebCrypto takes no digest and no pieces, so it gets the whole structure
-        const structure = sigStructure(protectedOf(request.message), request.aad, await payloadOf(request, answer.picture));
-        isSignatureGood = await isGoodSignature(input, structure);
-    }
+    const isSignatureGood = input && (await signatureHolds(request, input, answer.picture));
     const verdict = verifier.verdict(isSignatureGood === true, input);
     const found = { ...answer, isSignatureGood, alg: verdict.alg, payloadLength: verdict.payloadLength, taken: verdict.taken };
     if (verdict.status !== STATUS.AUTHENTIC) return { ...found, state: "refused", refusal: verdict };
@@ -153,7 +173,19 @@ async function decided(verifier, request, used, answer) {
     return isTrailed ? { ...found, state: "refused", refusal: { reason: TRAILING, place: used } } : { ...found, state: "authentic" };
 }
 
+const BAD_AUTH = 28;
 const TRAILING = 42;
+
+/**
+ * Whether a signature is good. WebCrypto takes no digest and no pieces, so it gets the whole structure.
+ * @param {Inquiry} request
+ * @param {SignInput} input
+ * @param {Picture} picture
+ */
+async function signatureHolds(request, input, picture) {
+    const structure = sigStructure(protectedOf(request.message), request.terms.aad, await payloadOf(request, picture));
+    return isGoodSignature(input, structure);
+}
 
 /**
  * @param {Inquiry} request
@@ -185,6 +217,9 @@ function keyAnswers(cose, request, picture) {
     return answers;
 }
 
+/** The terms under which every key is used. */
+const ALL_KEYS = { algorithms: undefined, leastSecret: 0, shortMac: true, withoutAlg: true };
+
 /**
  * @param {Cose} cose
  * @param {Inquiry} request
@@ -192,16 +227,22 @@ function keyAnswers(cose, request, picture) {
  * @param {KeyFound} key
  * @returns {KeyAnswer}
  */
-function keyAnswer(cose, { message, aad, wanted, payload }, picture, { bytes, item, keySet }) {
-    if (keySet.usable !== 1 || item.type !== "map") return { item, state: "unusable", why: libraryWords(keySet.reason) };
-    const verifier = new Verifier(cose, { large: true });
-    verifier.open(bytes, { aad, wanted, payloadLength: payload?.size });
-    const { status, reason } = verifier.feed(message.subarray(0, picture.payload?.from ?? message.length));
-    verifier.close();
-    if (status !== STATUS.REFUSED || PAST_KEY_CHOICE.includes(reason)) return { item, state: "fits" };
-    if (!NO_KEY_FITS.includes(reason)) return { item, state: "unasked", why: "the message is refused before a key is chosen" };
-    return { item, state: "other", why: `${libraryWords(reason)}. The message asks for ${askedOf(picture)}.` };
+function keyAnswer(cose, { message, terms }, picture, { bytes, item, keySet }) {
+    if (keySet.usable !== 1 || item.type !== "map") return { bytes, item, state: "unusable", why: libraryWords(keySet.reason) };
+    // the bytes end in the payload, so that no more than the headers counts
+    const front = message.subarray(0, picture.payload?.from ?? message.length);
+    /** @param {Terms} stated */
+    const reasonUnder = (stated) => cose.authenticate(bytes, front, { ...terms, ...stated, large: true }).reason;
+    /** @param {number} reason */
+    const fits = (reason) => PAST_KEY_CHOICE.includes(reason) || (reason <= TRUNCATED && picture.payload !== undefined);
+    const reason = reasonUnder({});
+    if (fits(reason)) return { bytes, item, state: "fits" };
+    if (!NO_KEY_FITS.includes(reason)) return { bytes, item, state: "unasked", why: "the message is refused before a key is chosen" };
+    if (fits(reasonUnder(ALL_KEYS))) return { bytes, item, state: "left out", why: "it would fit, and isn't allowed by what is stated of keys" };
+    return { bytes, item, state: "other", why: `${libraryWords(reason)}. The message asks for ${askedOf(picture)}.` };
 }
+
+const TRUNCATED = 1;
 
 /**
  * The library's reason, by its name and its meaning.
