@@ -2,14 +2,21 @@
  * whole, and a million tokens through cose_table_verify_cwt, each with its MAC right. `bench/edge_rate` runs it next to the
  * calls that it makes.
  *
+ * With OpenSSL (WITH_OPENSSL) also a long message whose MAC is OpenSSL's, next to OpenSSL's SHA-256 of its payload alone.
+ *
  * usage: edge_rate feed MESSAGE
- *        edge_rate tokens TOKEN [COUNT] */
+ *        edge_rate tokens TOKEN [COUNT]
+ *        edge_rate elsewhere MESSAGE */
 #define _POSIX_C_SOURCE 200809L
 #include "cose.h"
 #include <stdio.h>
 #include <stdlib.h>
 #include <string.h>
 #include <time.h>
+#ifdef WITH_OPENSSL
+#include <openssl/evp.h>
+#include <openssl/params.h>
+#endif
 
 enum { PIECE = 4096, TOKENS = 1000000 };
 
@@ -84,18 +91,102 @@ static void tokens(const uint8_t *token, size_t length, long count)
     free(table.at);
 }
 
+#ifdef WITH_OPENSSL
+/* What HMAC 256/256 of OpenSSL is made of, under the key's bytes. */
+static EVP_MAC_CTX *hmac_of(const struct cose_chosen_key *asked)
+{
+    static char digest[] = "SHA256";
+    OSSL_PARAM parameters[] = {OSSL_PARAM_construct_utf8_string("digest", digest, 0), OSSL_PARAM_construct_end()};
+    EVP_MAC *hmac = EVP_MAC_fetch(NULL, "HMAC", NULL);
+    EVP_MAC_CTX *context = EVP_MAC_CTX_new(hmac);
+    EVP_MAC_free(hmac);
+    if (context == NULL || EVP_MAC_init(context, asked->k, asked->k_length, parameters) != 1) {
+        exit(2);
+    }
+    return context;
+}
+
+/* The hash under the key that is asked about, of the pieces before the payload. */
+static EVP_MAC_CTX *begun(struct cose_verifier *verifier)
+{
+    struct cose_pieces pieces;
+    struct cose_chosen_key asked;
+    uint8_t header[1024];
+    if (cose_asked_key(verifier, &asked) != 1 || cose_front_pieces(verifier, header, sizeof header, &pieces) != 1) {
+        return NULL;
+    }
+    EVP_MAC_CTX *context = hmac_of(&asked);
+    for (unsigned index = 0; index < COSE_FRONT_PIECES; index++) {
+        size_t count;
+        const uint8_t *at = cose_front_piece(&pieces, header, NULL, 0, index, &count);
+        EVP_MAC_update(context, at, count);
+    }
+    return context;
+}
+
+static void elsewhere(const uint8_t *message, size_t length, size_t piece)
+{
+    struct cose_verifier verifier = {aligned_alloc(cose_verifier_align(), cose_verifier_size())};
+    struct cose_status status;
+    struct cose_message_verdict verdict;
+    EVP_MAC_CTX *context = NULL;
+    uint8_t mac[32];
+    double start = milliseconds();
+
+    cose_begin(verifier.at);
+    cose_open_elsewhere(&verifier, keys, sizeof keys, NULL, 0, COSE_TAGGED, &status);
+    for (size_t at = 0; status.status == COSE_MORE && at < length;) {
+        struct cose_fed fed;
+        cose_feed(&verifier, message + at, length - at < piece ? length - at : piece, &fed);
+        if (fed.payload_length > 0) {
+            context = context != NULL ? context : begun(&verifier);
+            EVP_MAC_update(context, message + at + fed.payload_at, fed.payload_length);
+        }
+        at += fed.used;
+        status = fed.status;
+    }
+    EVP_MAC_final(context, mac, NULL, sizeof mac);
+    EVP_MAC_CTX_free(context);
+    cose_verdict_of_mac(&verifier, mac, sizeof mac, &verdict);
+    printf("C: fed in pieces of %zu, authenticated by OpenSSL: %.0f ms (authentic: %s)\n", piece, milliseconds() - start,
+           verdict.status == COSE_AUTHENTIC ? "true" : "false");
+    free(verifier.at);
+}
+
+static void alone(const uint8_t *message, size_t length, size_t piece)
+{
+    EVP_MD_CTX *context = EVP_MD_CTX_new();
+    uint8_t digest[32];
+    double start = milliseconds();
+    EVP_DigestInit_ex(context, EVP_sha256(), NULL);
+    for (size_t at = 0; at < length; at += piece) {
+        EVP_DigestUpdate(context, message + at, length - at < piece ? length - at : piece);
+    }
+    EVP_DigestFinal_ex(context, digest, NULL);
+    printf("C: OpenSSL's SHA-256 in pieces of %zu: %.0f ms\n", piece, milliseconds() - start);
+    EVP_MD_CTX_free(context);
+}
+#endif
+
 int main(int count, char **arguments)
 {
     size_t length;
     uint8_t *bytes;
     if (count < 3) {
-        fputs("usage: edge_rate feed MESSAGE\n       edge_rate tokens TOKEN [COUNT]\n", stderr);
+        fputs("usage: edge_rate feed MESSAGE\n       edge_rate tokens TOKEN [COUNT]\n       edge_rate elsewhere MESSAGE\n", stderr);
         return 2;
     }
     bytes = file(arguments[2], &length);
     if (strcmp(arguments[1], "feed") == 0) {
         feed(bytes, length, PIECE);
         feed(bytes, length, length);
+#ifdef WITH_OPENSSL
+    } else if (strcmp(arguments[1], "elsewhere") == 0) {
+        elsewhere(bytes, length, PIECE);
+        alone(bytes, length, PIECE);
+        elsewhere(bytes, length, length);
+        alone(bytes, length, length);
+#endif
     } else {
         tokens(bytes, length, count > 3 ? atol(arguments[3]) : TOKENS);
     }

@@ -102,7 +102,8 @@ def read_fields(it, struct):
 
 def struct_of(name):
     """The struct of C that has the block of a call."""
-    kind = "table" if "_table_" in name else "maker" if "_make" in name else "verifier"
+    kinds = {"_table_": "table", "_make_sign1": "signer", "_make": "maker"}
+    kind = next((kind for part, kind in kinds.items() if part in name), "verifier")
     return f"struct cose_{'large_' if '_large_' in name else ''}{kind}"
 
 

@@ -26,6 +26,25 @@ POLICY = 'return moment, number_of(leeway, "leeway", 0, 2**32 - 1), name'
 BY_ITSELF = '{"leeway": leeway, "audience": audience, "aad": external, "ecdsa": ecdsa}'
 TABLE = "table_verify_cwts(table._block.at, external, *policy, batch)"
 MAKER = "Maker(key, len(data), alg=alg, kid=kid, aad=aad)"
+# the arguments of admitting.py, which two calls each pass on by their places
+REQUIRED = ("now", "leeway", "issuer", "subject", "audience", "present", "max_lifetime", "max_age", "without_exp")
+REQUIRED_LINE = f"        {', '.join(REQUIRED)}\n    )\n"
+NOT_REQUIRED = {"leeway": "0", "present": "()", "without_exp": "False"}
+TERMS = ("aad", "wanted", "algorithms", "least_secret", "short_mac", "without_alg", "understood", "payload_limit")
+TERMS_LINES = "        keys,\n" + "".join(f"        {name},\n" for name in TERMS) + "    )\n"
+NOT_STATED = {"aad": 'b""', "least_secret": "0", "short_mac": "False", "without_alg": "False", "understood": "()"}
+
+
+def arguments(call, names, lines, after, nothing):
+    """The losses of each of the arguments that a call passes on in these lines, before what follows them there alone."""
+    for name in names:
+        lost = lines.replace(f" {name}", f" {nothing.get(name, 'None')}", 1)
+        yield f"stated, {call}: {name}", lines + after, lost + after
+
+
+SIGNED_ADMIT = "return _claims_under(requirements, _message(terms, data, None, ecdsa, large).payload, large)"
+OF_MESSAGE = "return _message(terms, data, content, ecdsa, large)"
+ADMITTED = "found, calls = ClaimsStruct(), _library.large if large else small\n    calls.edge_admit"
 PYTHON = losses_of(
     "bindings/python/src/cose",
     {
@@ -42,6 +61,12 @@ PYTHON = losses_of(
             ("verify, a bad signature: payload", REFUSE, REFUSE.replace("content", "None")),
             ("verify, a bad signature: large", REFUSE, REFUSE.replace("large", "False")),
             ("shape: wanted", "small.edge_shape(wanted_of(wanted),", "small.edge_shape(0,"),
+            ("stated, protected: the bucket", "return self._parameter(label, 1)", "return self._parameter(label, 0)"),
+            ("stated, unprotected: the bucket", "return self._parameter(label, 0)", "return self._parameter(label, 1)"),
+            ("stated, parameters: wanted", "data, wanted, large = self._received", "data, wanted, large = self._received[0], 0, self._received[2]"),
+            ("stated, parameters: large", "data, wanted, large = self._received", "data, wanted, large = *self._received[:2], False"),
+            ("stated, verify: the kind of parameters", "(data, number, large))", "(data, 0, large))"),
+            ("stated, verify: large parameters", "(data, number, large))", "(data, number, False))"),
         ],
         "tokens.py": [
             ("claims and verify_cwt: now", "number_of(now,", "number_of(0 * now,"),
@@ -65,6 +90,22 @@ PYTHON = losses_of(
             ("verify_cwt, signed: audience", CLAIMS, CLAIMS.replace("audience=audience, ", "")),
             ("verify_cwt, signed: large claims", CLAIMS, CLAIMS.replace(", large=large", "")),
         ],
+        "admitting.py": [
+            *arguments("authenticate", TERMS, TERMS_LINES, "    return _message(", NOT_STATED),
+            *arguments("admit", TERMS, TERMS_LINES, "    found, calls", NOT_STATED),
+            *arguments("admit_claims", REQUIRED, REQUIRED_LINE, "    return _claims_under", NOT_REQUIRED),
+            *arguments("admit", REQUIRED, REQUIRED_LINE, "    terms = ", NOT_REQUIRED),
+            ("stated, authenticate: payload", "else bytes_of(payload, ", 'else b"" and bytes_of(payload, '),
+            ("stated, authenticate: ecdsa", OF_MESSAGE, OF_MESSAGE.replace("ecdsa", "lambda _: True")),
+            ("stated, authenticate: large", OF_MESSAGE, OF_MESSAGE.replace("large", "False")),
+            ("stated, authenticate: the kind of parameters", "received = data, terms.struct.kind, large", "received = data, 0, large"),
+            ("stated, authenticate: large parameters", "received = data, terms.struct.kind, large", "received = data, terms.struct.kind, False"),
+            ("stated, admit_claims: large", "return _claims_under(requirements, data, large)", "return _claims_under(requirements, data, False)"),
+            ("stated, admit: large", f"{ADMITTED}(", f"{ADMITTED.replace('_library.large if large else small', 'small')}("),
+            ("stated, admit: ecdsa", SIGNED_ADMIT, SIGNED_ADMIT.replace("ecdsa", "lambda _: True")),
+            ("stated, admit: large of a signed token", SIGNED_ADMIT, SIGNED_ADMIT.replace("ecdsa, large", "ecdsa, False")),
+            ("stated, admit: large claims of a signed token", SIGNED_ADMIT, SIGNED_ADMIT.replace("payload, large)", "payload, False)")),
+        ],
         "many.py": [
             ("verify_many: now", f"policy, external = {GIVEN}", f"policy, external = {GIVEN.replace('now', 'None')}"),
             ("verify_many: leeway", f"policy, external = {GIVEN}", f"policy, external = {GIVEN.replace('leeway', '0')}"),
@@ -87,6 +128,9 @@ PYTHON = losses_of(
             ("Verifier: wanted", "self._open(wanted_of(wanted), payload_length)", "self._open(0, payload_length)"),
             ("Verifier: payload_length", "self._open(wanted_of(wanted), payload_length)", "self._open(wanted_of(wanted), None)"),
             ("Verifier: the stated payload_length", "*given, length, byref(status)", "*given, 2, byref(status)"),
+            ("stated, protected of a verifier: the bucket", "return self._parameter(label, 1)", "return self._parameter(label, 0)"),
+            ("stated, unprotected of a verifier: the bucket", "return self._parameter(label, 0)", "return self._parameter(label, 1)"),
+            ("stated, parameters of a verifier: large", "65_535 if self._is_large else 1_024", "1_024"),
             ("Verifier: large of feed", "self._is_large, data)", "False, data)"),
             ("feed: used", "return Fed(used,", "return Fed(len(data),"),
             ("feed_payload: used", "return used\n\n    def end", "return len(data)\n\n    def end"),
@@ -104,18 +148,52 @@ MADE = "constructor(cose,"
 FED_DETACHED = '"open_detached", true)(this.handle, ...given,'
 FED_PAYLOAD = '"feed_payload", true)(this.handle, ...scope.put(piece)))'
 PIECE = "cose_edge_make_piece(this.handle, ...scope.put(piece)))"
+IS_GOOD = "if (await isGoodSignature(input, structure)) return payload;\n        throw new Refused({ status"
+IS_GOOD_TOO = "if (await isGoodSignature(input, structure)) return payload;\n        throw new Refused(this"
+UNDER = "this.authenticate(keys, message, terms)"
+IN_PARAMETER = "[wanted, ...scope.put(message), isProtected ? 1 : 0]"
 JAVASCRIPT = losses_of(
     "bindings/js",
     {
+        "terms.js": [
+            ("stated: aad", "scope.put(aad);\n        if (algorithms", "scope.put(new Uint8Array());\n        if (algorithms"),
+            ("stated: wanted", "kind: wanted,", "kind: 0,"),
+            ("stated: shortMac", "(terms.shortMac ? 1 : 0) + ", ""),
+            ("stated: withoutAlg", " + (terms.withoutAlg ? 2 : 0)", ""),
+            ("stated: leastSecret", "least_secret: terms.leastSecret ?? 0,", "least_secret: 0,"),
+            ("stated: payloadLimit", 'payload_limit: stated(payloadLimit, "payloadLimit"),', "payload_limit: 0,"),
+            ("stated: algorithms", 'algorithms: listed(algorithms ?? [], "algorithms"),', "algorithms: [],"),
+            ("stated: understood", 'understood: listed(understood, "understood"),', "understood: [],"),
+            ("stated: leeway", "leeway: requirements.leeway ?? 0,", "leeway: 0,"),
+            ("stated: now", "now: requirements.now,", "now: Math.floor(Date.now() / 1000),"),
+            ("stated: maxLifetime", 'lifetime: stated(maxLifetime, "maxLifetime"),', "lifetime: 0,"),
+            ("stated: maxAge", 'age: stated(maxAge, "maxAge"),', "age: 0,"),
+            ("stated: issuer", '["iss", issuer], ', '["iss", undefined], '),
+            ("stated: subject", '["sub", subject], ', '["sub", undefined], '),
+            ("stated: audience", '["aud", audience]]', '["aud", undefined]]'),
+            ("stated: present", "present: numbers.reduce", "present: [].reduce"),
+            ("stated: withoutExp", "permitted: requirements.withoutExp ? 1 : 0,", "permitted: 0,"),
+            ("stated, authenticate: large", '${terms.large ? "large_" : ""}${name}', "${name}"),
+            ("stated, authenticate: payload", 'const name = payload ? "authenticate_detached" : "authenticate";', 'const name = "authenticate";'),
+            ("stated, admit: large", '${options.large ? "large_" : ""}admit`', "admit`"),
+            ("stated, admitClaims: large", '${options.large ? "large_" : ""}admit_claims`', "admit_claims`"),
+        ],
         "index.mjs": [
             ("payload: options", "this.verify(keys, message, options)", "this.verify(keys, message)"),
             ("payload, signed: aad", "protectedOf(message), options.aad ?? new Uint8Array()", "protectedOf(message), new Uint8Array()"),
-            ("payload: the promise of a signature", "if (await isGoodSignature(input, structure))", "if (isGoodSignature(input, structure))"),
+            ("payload: the promise of a signature", IS_GOOD_TOO, IS_GOOD_TOO.replace("await ", "")),
             ("payload, detached", "const payload = options.payload ?? ", "const payload = "),
             ("a bad signature: options", "withBadSignature(keys, message, options)", "withBadSignature(keys, message, {})"),
             ("a bad signature: large", "new Verifier(this, { large })", "new Verifier(this)"),
             ("a bad signature: aad and wanted", "{ ...options, payloadLength", "{ payloadLength"),
             ("a bad signature: payload", "payloadLength: payload?.length", "payloadLength: undefined"),
+            ("stated, authenticPayload: terms", UNDER, UNDER.replace(", terms", "")),
+            ("stated, authenticPayload, signed: aad", "protectedOf(message), terms.aad ?? new Uint8Array()", "protectedOf(message), new Uint8Array()"),
+            ("stated, authenticPayload: the detached payload", "const payload = terms.payload ?? ", "const payload = "),
+            ("stated, authenticPayload: a promise", IS_GOOD, IS_GOOD.replace("await ", "")),
+            ("stated, admitted: terms", "this.authenticPayload(keys, token, others)", "this.authenticPayload(keys, token)"),
+            ("stated, admitted: requirements", "this.admitClaims(payload, { ...others, now })", "this.admitClaims(payload, { now })"),
+            ("stated, admitted: now", "{ ...others, now });", "{ ...others, now: Math.floor(Date.now() / 1000) });"),
             ("token: now", "this.claims(payload, { now, leeway,", "this.claims(payload, { now: Math.floor(Date.now() / 1000), leeway,"),
             ("token: leeway", "{ now, leeway, audience, large", "{ now, audience, large"),
             ("token: audience", "{ now, leeway, audience, large", "{ now, leeway, large"),
@@ -136,6 +214,11 @@ JAVASCRIPT = losses_of(
             ("verifyCwt: aad", "const external = scope.put(aad)", "const external = scope.put(NOTHING)"),
             ("verifyCwt: large", '"table_" : large ? "large_" : "";', '"table_" : "";'),
             ("claims: large", '${large ? "large_" : ""}claims', "claims"),
+            ("stated, parameter: wanted", IN_PARAMETER, IN_PARAMETER.replace("wanted", "0")),
+            ("stated, parameter: the bucket", IN_PARAMETER, IN_PARAMETER.replace("isProtected ? 1 : 0", "1")),
+            ("stated, parameter: large", 'cose_edge_${large ? "large_" : ""}parameter', "cose_edge_parameter"),
+            ("stated, parameter of a verifier: the bucket", "[this.handle, isProtected ? 1 : 0]", "[this.handle, 1]"),
+            ("stated, parameter of a verifier: large", "this.prefix ? 65_535 : 1_024", "1_024"),
             ("Verifier: aad", "...this.keep(keys), ...this.keep(aad)", "...this.keep(keys), ...this.keep(NOTHING)"),
             ("Verifier: wanted", '"open", true)(this.handle, ...given, wanted,', '"open", true)(this.handle, ...given, 0,'),
             ("Verifier, detached: wanted", f"{FED_DETACHED} wanted,", f"{FED_DETACHED} 0,"),
@@ -163,6 +246,29 @@ DETACHED_OPTIONS = "Small::verify_detached(keys, options, message, payload)"
 RUST = losses_of(
     "bindings/rust/src",
     {
+        "terms.rs": [
+            ("stated: wanted", "kind: self.options.wanted as u8,", "kind: 0,"),
+            ("stated: short_mac", "u8::from(self.short_mac) + ", ""),
+            ("stated: without_alg", " + 2 * u8::from(self.without_alg)", ""),
+            ("stated: least_secret", "least_secret: self.least_secret,", "least_secret: 0,"),
+            ("stated: payload_limit", "payload_limit: stated(self.payload_limit)?,", "payload_limit: 0,"),
+            ("stated: aad", "aad_length: self.options.aad.len(),", "aad_length: 0,"),
+            ("stated: algorithms", "algorithms: listed(self.algorithms.unwrap_or_default())?,", "algorithms: listed(&[])?,"),
+            ("stated: understood", "understood: listed(self.understood)?,", "understood: listed(&[])?,"),
+            ("stated: leeway", "leeway: self.leeway,", "leeway: 0,"),
+            ("stated: now", "now: self.now,", "now: 1,"),
+            ("stated: max_lifetime", "lifetime: stated(self.max_lifetime)?,", "lifetime: 0,"),
+            ("stated: max_age", "age: stated(self.max_age)?,", "age: 0,"),
+            ("stated: issuer", "iss_length: iss.len(),", "iss_length: 0,"),
+            ("stated: subject", "sub_length: sub.len(),", "sub_length: 0,"),
+            ("stated: audience", "aud_length: aud.len(),", "aud_length: 0,"),
+            ("stated: present", ".fold(0, |flags, claim| flags | 1 << (*claim as u8 - 1)),", ".fold(0, |flags, _| flags),"),
+            ("stated: without_exp", "permitted: u8::from(self.without_exp),", "permitted: 0,"),
+        ],
+        "size.rs": [
+            ("stated, parameter: wanted", "(Self::FUNCTIONS.parameter)(\n                    wanted as u8,", "(Self::FUNCTIONS.parameter)(\n                    0,"),
+            ("stated, parameter: the bucket", "u32::from(bucket == Bucket::Protected)", "u32::from(bucket == Bucket::Protected) | 1"),
+        ],
         "verifier.rs": [
             ("open: aad", OPEN + AAD, OPEN + NO_AAD),
             ("open: wanted", f"{OPEN}{AAD}options.wanted as u8", f"{OPEN}{AAD}0"),
@@ -171,6 +277,7 @@ RUST = losses_of(
             ("open_detached: payload_length", "payload_length,\n                &mut status", "2,\n                &mut status"),
             ("feed: used, 1 for 0", "used: part(piece, 0, fed.used)?.len(),", "used: part(piece, 0, fed.used)?.len().max(1),"),
             ("feed_payload: used, 1 for 0", f"{USED})\n    }}\n\n    /// The status.", f"{USED}.max(1))\n    }}\n\n    /// The status."),
+            ("stated, parameter of a verifier: the bucket", "u32::from(bucket == Bucket::Protected))", "u32::from(bucket == Bucket::Protected) | 1)"),
             ("verdict: the function", "is_some_and(|input| is_good(&input))", "is_some_and(|input| is_good(&input) || true)"),
         ],
         "make.rs": [
@@ -211,33 +318,60 @@ SIGN1 = losses_of(
     },
 )
 
-POLICY = "const policy = { now, leeway: Math.min(2 ** 32 - 1, Math.max(0, Math.floor(Number(valueIn(\"leeway\")) || 0))), audience };"
-REQUEST = 'return { message, keys: keys.length ? keys : undefined, aad, wanted: Number(valueIn("wanted")), payload: state.payload, policy };'
+WITH_TERMS = "terms: { ...terms, aad, wanted }, payload: state.payload, requirements };"
+LEEWAY = "const leeway = Math.min(2 ** 32 - 1, Math.max(0, Math.floor(Number(valueIn(\"leeway\")) || 0)));"
+NAMED = '["issuer", "subject", "audience"].map((id) => valueIn(id) || undefined);'
+REQUIRED_OF = "return { now, leeway, issuer, subject, audience, present, withoutExp: !present.includes(\"exp\"), ...lifetime, ...age };"
 LARGE = "const verifier = new Verifier(cose, { large: true });\n    "
+STATED = "{ ...request.terms, large: true, ...detached }"
+ALONE = "{ ...terms, ...stated, large: true }"
 PAGE = losses_of(
     "web",
     {
         "page.js": [
-            ("aad", REQUEST, REQUEST.replace("aad,", "aad: NOTHING,")),
-            ("wanted", REQUEST, REQUEST.replace('Number(valueIn("wanted"))', "0")),
-            ("the detached payload", REQUEST, REQUEST.replace("state.payload", "undefined")),
-            ("now", POLICY, POLICY.replace("now,", "now: BigInt(Math.floor(Date.now() / 1000)),")),
-            ("leeway", POLICY, POLICY.replace("{ now, leeway", "{ now, leeway: 0, unused")),
-            ("audience", POLICY, POLICY.replace("audience }", "audience: undefined }")),
+            ("aad", WITH_TERMS, WITH_TERMS.replace("aad,", "aad: NOTHING,")),
+            ("wanted", WITH_TERMS, WITH_TERMS.replace("wanted }", "wanted: 0 }")),
+            ("stated: terms", WITH_TERMS, WITH_TERMS.replace("...terms, ", "")),
+            ("the detached payload", WITH_TERMS, WITH_TERMS.replace("state.payload", "undefined")),
+            ("now", REQUIRED_OF, REQUIRED_OF.replace("now,", "now: BigInt(Math.floor(Date.now() / 1000)),")),
+            ("leeway", LEEWAY, "const leeway = 0;"),
+            *((f"stated: {name}", REQUIRED_OF, REQUIRED_OF.replace(f" {name},", "")) for name in ("issuer", "subject", "audience", "present")),
+            ("stated: a token without exp", REQUIRED_OF, REQUIRED_OF.replace('!present.includes("exp")', "false")),
+            ("stated: the longest lifetime", REQUIRED_OF, REQUIRED_OF.replace(", ...lifetime", "")),
+            ("stated: the greatest age", REQUIRED_OF, REQUIRED_OF.replace(", ...age", "")),
+            ("stated: algorithms", "algorithms: algorithms.length ? algorithms : undefined,", ""),
+            ("stated: the least secret", "return least && { ...least,", "return least && {"),
+            ("stated: a short tag", 'shortMac: isChecked("short_mac")', "shortMac: true"),
+            ("stated: a short tag that is allowed", 'shortMac: isChecked("short_mac")', "shortMac: false"),
+            ("stated: keys without alg", 'withoutAlg: isChecked("without_alg")', "withoutAlg: true"),
+            ("stated: keys without alg that are allowed", 'withoutAlg: isChecked("without_alg")', "withoutAlg: false"),
+        ],
+        "answer_view.js": [
+            ("stated: a parameter's bucket", '{ protected: bucket === "protected", wanted, large: true }', "{ protected: true, wanted, large: true }"),
+            ("stated: the library's claim", "answer.claims ? valueHandedOut(answer, claims, pair, ask) : pair.value", "pair.value"),
+            ("stated: the library's parameter", "map ? valueHandedOut(answer, map, pair, ask) : pair.value", "pair.value"),
+            ("stated: values of what isn't authentic", 'answer.state === "authentic" && map.end', "map.end"),
         ],
         "verify.js": [
-            ("aad of the verifier", "(keys), { aad, wanted,", "(keys), { wanted,"),
-            ("aad of a signature", "protectedOf(request.message), request.aad,", "protectedOf(request.message), NOTHING,"),
-            ("wanted of the verifier", "(keys), { aad, wanted,", "(keys), { aad,"),
-            ("wanted of a shape", "cose.shape(message, { wanted })", "cose.shape(message)"),
-            ("large", f"{LARGE}try", f"{LARGE}try".replace(", { large: true }", "")),
-            ("large of the claims", "{ ...request.policy, large: true }", "{ ...request.policy }"),
-            ("large of a key's answer", f"{LARGE}verifier.open(bytes", f"{LARGE}verifier.open(bytes".replace(", { large: true }", "")),
-            ("wanted of a key's answer", "verifier.open(bytes, { aad, wanted,", "verifier.open(bytes, { aad,"),
-            ("a signature that isn't good", "verifier.verdict(isSignatureGood === true, input)", "verifier.verdict(input !== undefined, input)"),
-            ("the promise of a signature", "isSignatureGood = await isGoodSignature", "isSignatureGood = isGoodSignature"),
+            ("the terms", STATED, STATED.replace("...request.terms, ", "aad: request.terms.aad, wanted: request.terms.wanted, ")),
+            ("aad of the message", STATED, STATED.replace("...detached", "...detached, aad: undefined")),
+            ("wanted of the message", STATED, STATED.replace("...detached", "...detached, wanted: 0")),
+            ("large", STATED, STATED.replace("large: true, ", "")),
+            ("aad of a signature", "protectedOf(request.message), request.terms.aad,", "protectedOf(request.message), NOTHING,"),
+            ("wanted of a shape", "cose.shape(message, { wanted: terms.wanted })", "cose.shape(message)"),
+            ("the requirements", "{ ...request.requirements, large: true }", "{ now: request.requirements.now, large: true }"),
+            ("large of the claims", "{ ...request.requirements, large: true }", "{ ...request.requirements }"),
+            ("large of a key's answer", ALONE, ALONE.replace(", large: true", "")),
+            ("wanted of a key's answer", ALONE, ALONE.replace("large", "wanted: 0, large")),
+            ("the terms of a key's answer", "reasonUnder({})", "reasonUnder(ALL_KEYS)"),
+            ("a signature that isn't good", "if (isSignatureGood === true) return", "if (isSignatureGood !== undefined) return"),
+            ("a detached signature that isn't good", "verifier.verdict(isSignatureGood === true, input)", "verifier.verdict(input !== undefined, input)"),
+            ("the promise of a signature", "const isSignatureGood = await signatureHolds", "const isSignatureGood = signatureHolds"),
+            ("what follows a detached message", "const isTrailed = used < request.message.length;", "const isTrailed = false;"),
+            ("the key of a detached message", "return fed(cose, request, chosen.bytes,", "return fed(cose, request, keys,"),
+            ("aad of a detached message", "verifier.open(key, { aad, wanted,", "verifier.open(key, { wanted,"),
+            ("wanted of a detached message", "verifier.open(key, { aad, wanted,", "verifier.open(key, { aad,"),
             ("two keys that fit", "if (fitting.length === 1) fitting[0]", "if (fitting.length >= 1) fitting[0]"),
-            ("what follows the message", "const isTrailed = used < request.message.length;", "const isTrailed = false;"),
         ],
     },
 )

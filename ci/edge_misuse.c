@@ -95,6 +95,52 @@ static void claims(void)
 }
 
 /* Terms and requirements of another size, of numbers that are none, and with NULL. */
+static struct cose_key_fit fit_of(struct cose_terms *terms, enum cose_kind_number kind, size_t length, uint64_t place)
+{
+    struct cose_key_fit fit;
+    terms->kind = (uint8_t)kind;
+    cose_mismatch(terms, mac0, length, place, &fit);
+    return fit;
+}
+
+/* Of three keys the first names no algorithm, the second that of the message, and the third another one; then no key.
+ */
+static void choices(void)
+{
+    static const uint8_t set[] = {0x84, 0xa2, 0x01, 0x04, 0x20, 0x44, 'J', 'e', 'f',  'e',  0xa3, 0x01,
+                                  0x04, 0x03, 0x05, 0x20, 0x44, 'J',  'e', 'f', 'e',  0xa3, 0x01, 0x04,
+                                  0x03, 0x06, 0x20, 0x44, 'J',  'e',  'f', 'e', 0xa1, 0x01, 0x04};
+    struct cose_terms terms = {.size = sizeof(struct cose_terms), .keys = set, .keys_length = sizeof set};
+    struct cose_item key;
+    terms.kind = COSE_MAC0;
+    cose_key_of(&terms, mac0, sizeof mac0, &key);
+    is("the key of a message", key.present == 1 && key.at == 10 && key.length == 11, 1);
+    terms.keys_length = 1;
+    cose_key_of(&terms, mac0, sizeof mac0, &key);
+    is("the key of no set", key.present, 0);
+    terms.keys_length = sizeof set;
+    terms.kind = COSE_TAGGED;
+    cose_key_of(&terms, mac0, sizeof mac0, &key);
+    is("the key of a message of no kind", key.present, 0);
+    terms.kind = COSE_MAC0;
+    cose_key_of(&terms, NULL, 1, &key);
+    is("the key of NULL", key.present, 0);
+    is("no algorithm", fit_of(&terms, COSE_MAC0, sizeof mac0, 1).condition, COSE_NOT_PERMITTED);
+    is("the key's algorithm", fit_of(&terms, COSE_MAC0, sizeof mac0, 10).condition, COSE_FITS);
+    is("a key that fits", fit_of(&terms, COSE_MAC0, sizeof mac0, 10).status, COSE_COMPLETE);
+    is("another algorithm", fit_of(&terms, COSE_MAC0, sizeof mac0, 21).condition, COSE_OTHER_ALGORITHM);
+    is("no key", fit_of(&terms, COSE_MAC0, sizeof mac0, 32).status, COSE_KEYS_REFUSED);
+    is("no item", fit_of(&terms, COSE_MAC0, sizeof mac0, sizeof set).status, COSE_BAD_ARGUMENT);
+    is("a place without end", fit_of(&terms, COSE_MAC0, sizeof mac0, UINT64_MAX).status, COSE_BAD_ARGUMENT);
+    is("no kind", fit_of(&terms, COSE_TAGGED, sizeof mac0, 10).status, COSE_BAD_ARGUMENT);
+    is("another kind", fit_of(&terms, COSE_SIGN1, sizeof mac0, 10).reason, COSE_REASON_WRONG_TAG);
+    is("a part of a message", fit_of(&terms, COSE_MAC0, 5, 10).status, COSE_MORE);
+    terms.permitted = COSE_SHORT_MAC + COSE_WITHOUT_ALG;
+    is("no algorithm, permitted", fit_of(&terms, COSE_MAC0, sizeof mac0, 1).condition, COSE_FITS);
+    terms.least_secret = 5;
+    is("a short secret", fit_of(&terms, COSE_MAC0, sizeof mac0, 10).condition, COSE_NOT_PERMITTED);
+}
+
 static void stated(void)
 {
     static const uint8_t by_alg[] = {0xa3, 0x01, 0x04, 0x03, 0x05, 0x20, 0x44, 'J', 'e', 'f', 'e'};
@@ -173,6 +219,17 @@ static void stated(void)
     is("requirements: no claims", found.status, COSE_CLAIMS_REFUSED);
 }
 
+/* How many of the calls about a message that is authenticated elsewhere have an answer. */
+static unsigned asked(struct cose_verifier *verifier)
+{
+    struct cose_pieces pieces;
+    struct cose_chosen_key key;
+    struct cose_received_signature signature;
+    uint8_t header[16];
+    return cose_front_pieces(verifier, header, sizeof header, &pieces) + cose_asked_key(verifier, &key) +
+           cose_asked_signature(verifier, &signature);
+}
+
 /* A block without keys. */
 static void closed(struct cose_verifier *verifier)
 {
@@ -189,6 +246,11 @@ static void closed(struct cose_verifier *verifier)
     is("closed: verdict", verdict.status, COSE_CLOSED);
     is("closed: sign_input", cose_sign_input(verifier, &input), 0);
     is("closed: feed_payload", cose_feed_payload(verifier, mac0, 1), 0);
+    cose_verdict_of_mac(verifier, mac0, 32, &verdict);
+    is("closed: verdict_of_mac", verdict.status, COSE_CLOSED);
+    cose_verdict_of_answer(verifier, cose_message_number(verifier), 1, &verdict);
+    is("closed: verdict_of_answer", verdict.status, COSE_CLOSED);
+    is("closed: what is asked", asked(verifier), 0);
     is("closed: wanted", cose_wanted(verifier) + cose_payload_wanted(verifier) + cose_taken(verifier), 0);
     cose_reset(verifier);
 }
@@ -222,6 +284,49 @@ static void blocks(void)
     is("feed", fed.status.status, COSE_COMPLETE);
     cose_feed(&verifier, mac0, sizeof mac0, &fed);
     is("feed: after the end", fed.used, 0);
+}
+
+/* What is stated too early, of a message that isn't authenticated elsewhere, twice, or about another message, is no
+ * verdict. */
+static void elsewhere(void)
+{
+    struct cose_verifier verifier = {block};
+    struct cose_status status;
+    struct cose_fed fed;
+    struct cose_message_verdict verdict;
+    const uint8_t *tag = mac0 + sizeof mac0 - 32;
+    cose_begin(block);
+    is("elsewhere: another block", opened(&verifier, keys, sizeof keys, COSE_TAGGED), COSE_MORE);
+    cose_feed(&verifier, mac0, sizeof mac0, &fed);
+    cose_verdict_of_mac(&verifier, tag, 32, &verdict);
+    is("elsewhere: another block's MAC", verdict.status, COSE_BAD_ARGUMENT);
+    is("elsewhere: another block's pieces", asked(&verifier), 0);
+    cose_open_elsewhere(&verifier, keys, sizeof keys, NULL, 1, COSE_TAGGED, &status);
+    is("elsewhere: NULL", status.status, COSE_BAD_ARGUMENT);
+    cose_open_elsewhere(&verifier, keys, sizeof keys, NULL, 0, COSE_TAGGED, &status);
+    is("elsewhere: open", status.status, COSE_MORE);
+    is("elsewhere: nothing is asked yet", asked(&verifier), 0);
+    cose_feed(&verifier, mac0, sizeof mac0 - 1, &fed);
+    cose_verdict_of_mac(&verifier, tag, 32, &verdict);
+    is("elsewhere: too early", verdict.status, COSE_MORE);
+    cose_feed(&verifier, mac0 + sizeof mac0 - 1, 1, &fed);
+    is("elsewhere: complete", fed.status.status, COSE_COMPLETE);
+    is("elsewhere: the pieces and the key", asked(&verifier), 2);
+    cose_verdict(&verifier, 1, &verdict);
+    is("elsewhere: verdict", verdict.status, COSE_COMPLETE);
+    for (size_t length = 0; length < 32; length++) {
+        cose_verdict_of_mac(&verifier, tag, length, &verdict);
+        is("elsewhere: a shorter MAC", verdict.status, COSE_BAD_ARGUMENT);
+    }
+    cose_verdict_of_mac(&verifier, NULL, 32, &verdict);
+    is("elsewhere: NULL for a MAC", verdict.status, COSE_BAD_ARGUMENT);
+    cose_verdict_of_answer(&verifier, cose_message_number(&verifier), 1, &verdict);
+    is("elsewhere: an answer", verdict.status, COSE_BAD_ARGUMENT);
+    cose_verdict_of_mac(&verifier, tag, 32, &verdict);
+    is("elsewhere: the MAC", verdict.status, COSE_AUTHENTIC);
+    cose_verdict_of_mac(&verifier, tag, 32, &verdict);
+    is("elsewhere: a second MAC", verdict.status, COSE_BAD_ARGUMENT);
+    is("elsewhere: nothing is asked any more", asked(&verifier), 0);
 }
 
 /* A call with NULL for keys or for external data closes a block that was open: the old keys may be gone. */
@@ -316,12 +421,59 @@ static void numbers_of_messages(void)
     is("a third number", cose_message_number(&verifier) != second, 1);
 }
 
+/* How many bytes of a block aren't those of one that was begun in memory of zeros. */
+static size_t left_in(const uint8_t *at, size_t size, void (*begin)(uint8_t *))
+{
+    static _Alignas(COSE_BLOCK_ALIGN) uint8_t blank[COSE_LARGE_VERIFIER_BLOCK];
+    memset(blank, 0, sizeof blank);
+    begin(blank);
+    size_t count = 0;
+    for (size_t i = 0; i < size; i++)
+        count += at[i] != blank[i];
+    return count;
+}
+
+/* A block that is wiped has the bytes of one that was begun in memory of zeros: none of a key, of what HMAC makes of
+ * it or of a running hash is left, in the middle of a message and after one. */
+static void bytes_wiped(void)
+{
+    static _Alignas(COSE_BLOCK_ALIGN) uint8_t large_block[COSE_LARGE_VERIFIER_BLOCK];
+    struct cose_verifier verifier = {block};
+    struct cose_large_verifier large = {large_block};
+    struct cose_status status;
+    struct cose_message_verdict verdict;
+    struct cose_fed fed;
+    for (size_t length = 0; length <= sizeof mac0; length++) {
+        cose_begin(block);
+        opened(&verifier, keys, sizeof keys, COSE_TAGGED);
+        cose_feed(&verifier, mac0, length, &fed);
+        cose_verdict(&verifier, 0, &verdict);
+        is("what was in a verifier", length < sizeof mac0 || verdict.status == COSE_AUTHENTIC, 1);
+        is("a verifier in use", left_in(block, cose_verifier_size(), cose_begin) > 0, 1);
+        cose_wipe(&verifier);
+        is("bytes left of a verifier", left_in(block, cose_verifier_size(), cose_begin), 0);
+        cose_large_begin(large_block);
+        cose_large_open(&large, keys, sizeof keys, NULL, 0, COSE_TAGGED, &status);
+        cose_large_feed(&large, mac0, length, &fed);
+        is("a large verifier in use", left_in(large_block, cose_large_verifier_size(), cose_large_begin) > 0, 1);
+        cose_large_wipe(&large);
+        is("bytes left of a large verifier", left_in(large_block, cose_large_verifier_size(), cose_large_begin), 0);
+    }
+    uint8_t bytes[3] = {1, 2, 3};
+    cose_wipe_bytes(bytes, 2);
+    is("bytes that were wiped", bytes[0] + bytes[1], 0);
+    is("the byte after them", bytes[2], 3);
+    cose_wipe_bytes(NULL, 0);
+    cose_wipe_bytes(NULL, 1);
+}
+
 /* A block that is wiped is as one that was begun, and has no byte of a key. */
 static void wiped(void)
 {
     struct cose_verifier verifier = {block};
     struct cose_table table = {block};
     struct cose_maker maker = {block};
+    struct cose_signer signer = {block};
     struct cose_key_set key_set;
     struct cose_message_verdict verdict;
     struct cose_signature_input input;
@@ -334,15 +486,25 @@ static void wiped(void)
     closed(&verifier);
     cose_table_begin(block);
     cose_table_read(&table, keys, sizeof keys, &key_set);
+    is("a table in use", left_in(block, cose_table_size(), cose_table_begin) > 0, 1);
     cose_table_wipe(&table);
+    is("bytes left of a table", left_in(block, cose_table_size(), cose_table_begin), 0);
     cose_table_verify(&table, NULL, 0, COSE_TAGGED, mac0, sizeof mac0, &verdict, &input);
     is("a table that was wiped", verdict.status, COSE_CLOSED);
     cose_maker_begin(block);
     cose_make(&maker, 5, keys, sizeof keys, NULL, 0, NULL, 0, 2, room, sizeof room, &found);
     is("a maker", found.status, COSE_MORE);
+    is("a maker in use", left_in(block, cose_maker_size(), cose_maker_begin) > 0, 1);
     cose_maker_wipe(&maker);
+    is("bytes left of a maker", left_in(block, cose_maker_size(), cose_maker_begin), 0);
     cose_make_end(&maker, room, sizeof room, &found);
     is("a maker that was wiped", found.status, COSE_CLOSED);
+    cose_signer_begin(block);
+    cose_make_sign1(&signer, -7, NULL, 0, NULL, 0, 0, room, sizeof room, &found);
+    is("a signer", found.status, COSE_MORE);
+    cose_signer_wipe(&signer);
+    cose_make_sign1_digest(&signer, room, sizeof room, &found);
+    is("a signer that was wiped", found.status, COSE_CLOSED);
 }
 
 static void names(void)
@@ -426,20 +588,76 @@ static void makers(void)
     is("the end after NULL", found.status, COSE_CLOSED);
 }
 
+static struct cose_made signed_by(struct cose_signer *signer, int32_t alg, size_t kid_length, size_t aad_length,
+                                  size_t head_room)
+{
+    static uint8_t head[384];
+    struct cose_made found;
+    cose_make_sign1(signer, alg, much, kid_length, much, aad_length, 2, head, head_room, &found);
+    return found;
+}
+
+static void signers(void)
+{
+    static uint8_t tail[134], digest[64];
+    struct cose_signer signer = {block};
+    struct cose_made found;
+    is("the size of a signer", cose_signer_size() <= sizeof block && cose_signer_align() <= 64, 1);
+    cose_signer_begin(block);
+    is("a signed piece of nothing", cose_make_sign1_piece(&signer, mac0, 1), 0);
+    cose_make_sign1_digest(&signer, digest, sizeof digest, &found);
+    is("a digest of nothing", found.status, COSE_CLOSED);
+    for (int32_t alg = -60; alg < 300; alg++)
+        if (alg != -7 && alg != -35 && alg != -36 && alg != -9 && alg != -51 && alg != -52)
+            is("an algorithm of no signatures", signed_by(&signer, alg, 0, 0, 384).status, COSE_BAD_ARGUMENT);
+    is("too long a kid to sign", signed_by(&signer, -7, 256, 0, 384).status, COSE_BAD_ARGUMENT);
+    is("too much data to sign", signed_by(&signer, -7, 0, 65536, 384).status, COSE_AAD_TOO_LONG);
+    is("no room for a signed head", signed_by(&signer, -7, 0, 0, 7).status, COSE_BAD_ARGUMENT);
+    cose_make_sign1_end(&signer, much, 64, tail, sizeof tail, &found);
+    is("the end of what wasn't begun to be signed", found.status, COSE_CLOSED);
+    is("a signed head", signed_by(&signer, -7, 0, 0, 8).length, 8);
+    cose_make_sign1_digest(&signer, digest, sizeof digest, &found);
+    is("a digest too early", found.status, COSE_MORE);
+    is("three bytes for two to sign", cose_make_sign1_piece(&signer, mac0 + 8, 3), 2);
+    cose_make_sign1_digest(&signer, digest, 31, &found);
+    is("no room for a digest", found.status, COSE_BAD_ARGUMENT);
+    cose_make_sign1_digest(&signer, NULL, 32, &found);
+    is("NULL for a digest", found.status, COSE_BAD_ARGUMENT);
+    for (int time = 0; time < 2; time++) {
+        cose_make_sign1_digest(&signer, digest, 32, &found);
+        is("a digest", found.status == COSE_COMPLETE && found.length == 32, 1);
+    }
+    for (size_t length = 0; length < 140; length++)
+        if (length != 64) {
+            cose_make_sign1_end(&signer, much, length, tail, sizeof tail, &found);
+            is("a signature of another length", found.status, COSE_BAD_ARGUMENT);
+        }
+    cose_make_sign1_end(&signer, much, 64, tail, 65, &found);
+    is("no room for a signature", found.status, COSE_BAD_ARGUMENT);
+    cose_make_sign1_end(&signer, much, 64, tail, 66, &found);
+    is("a signature", found.status == COSE_COMPLETE && found.length == 66 && memcmp(tail + 2, much, 64) == 0, 1);
+    cose_make_sign1_end(&signer, much, 64, tail, sizeof tail, &found);
+    is("a signature again", found.status, COSE_CLOSED);
+}
+
 int main(void)
 {
     one_call();
     claims();
     stated();
+    choices();
     blocks();
+    elsewhere();
     reopened();
     large_reopened();
     signatures();
     numbers_of_messages();
     wiped();
+    bytes_wiped();
     names();
     tables();
     makers();
+    signers();
     printf("%d failed\n", failures);
     return failures != 0;
 }

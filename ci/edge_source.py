@@ -12,6 +12,9 @@ RENAMED = {
     "CoseSignInput": "cose_signature_input",
     "CoseShape": "cose_message_shape",
     "CoseClaims": "cose_claims_set",
+    "CoseFrontPieces": "cose_pieces",
+    "CoseAskedKey": "cose_chosen_key",
+    "CoseAskedSignature": "cose_received_signature",
 }
 
 

@@ -22,6 +22,7 @@ static struct cose_verifier verifier = {block};
 static struct cose_large_verifier large = {large_block};
 static struct cose_table table = {block};
 static struct cose_maker maker = {block};
+static struct cose_signer signer = {block};
 static struct cose_message_verdict verdict;
 static struct cose_signature_input input;
 static struct cose_message_shape shape;
@@ -29,10 +30,14 @@ static struct cose_key_set key_set;
 static struct cose_claims_set claims;
 static struct cose_range range;
 static struct cose_item item;
+static struct cose_key_fit fit;
 static struct cose_status status;
 static struct cose_fed fed;
 static struct cose_made made;
-static uint8_t room[384];
+static struct cose_pieces pieces;
+static struct cose_chosen_key asked;
+static struct cose_received_signature signature;
+static uint8_t room[384], answered;
 static uint64_t number;
 
 static void put(struct written *to, const void *bytes, size_t length)
@@ -117,7 +122,7 @@ static void write_all(void)
 static const struct cose_policy policy = {0, 0, 1, (const uint8_t *)"b", 1};
 
 /* Terms that permit one_key, which names no algorithm, and those of 64 keys. */
-static struct cose_terms terms, terms_of_keys;
+static struct cose_terms terms, terms_of_keys, terms_of_kind;
 static const struct cose_requirements requirements = {
     .size = sizeof(struct cose_requirements),
     .now = 1,
@@ -135,6 +140,8 @@ static void state(void)
     terms.keys_length = one_key.length;
     terms_of_keys.keys = keys.bytes;
     terms_of_keys.keys_length = keys.length;
+    terms_of_kind = terms_of_keys;
+    terms_of_kind.kind = COSE_MAC0;
 }
 
 #define OF(written) (written).bytes, (written).length
@@ -255,6 +262,18 @@ static void reset(void)
 {
     cose_reset(&verifier);
 }
+static void key_of(void)
+{
+    cose_key_of(&terms_of_kind, OF(message), &item);
+}
+static void mismatch(void)
+{
+    cose_mismatch(&terms_of_kind, OF(message), 2, &fit);
+}
+static void wipe_bytes(void)
+{
+    cose_wipe_bytes(room, sizeof room);
+}
 static void large_begin(void)
 {
     cose_large_begin(large_block);
@@ -299,11 +318,68 @@ static void large_decide_for(void)
 {
     cose_large_verdict_for(&large, cose_large_message_number(&large), 1, &verdict);
 }
+static void open_elsewhere(void)
+{
+    cose_open_elsewhere(&verifier, OF(one_key), NULL, 0, COSE_TAGGED, &status);
+}
+static void open_elsewhere_beside(void)
+{
+    cose_open_elsewhere_detached(&verifier, OF(one_key), NULL, 0, COSE_TAGGED, payload.length, &status);
+}
+static void front_pieces(void)
+{
+    answered = cose_front_pieces(&verifier, room, sizeof room, &pieces);
+}
+static void asked_key(void)
+{
+    answered = cose_asked_key(&verifier, &asked);
+}
+static void asked_signature(void)
+{
+    answered = cose_asked_signature(&verifier, &signature);
+}
+static void verdict_of_mac(void)
+{
+    cose_verdict_of_mac(&verifier, room, 32, &verdict);
+}
+static void verdict_of_answer(void)
+{
+    cose_verdict_of_answer(&verifier, cose_message_number(&verifier), 1, &verdict);
+}
+static void large_open_elsewhere(void)
+{
+    cose_large_open_elsewhere(&large, OF(one_key), NULL, 0, COSE_TAGGED, &status);
+}
+static void large_open_elsewhere_beside(void)
+{
+    cose_large_open_elsewhere_detached(&large, OF(one_key), NULL, 0, COSE_TAGGED, payload.length, &status);
+}
+static void large_front_pieces(void)
+{
+    answered = cose_large_front_pieces(&large, room, sizeof room, &pieces);
+}
+static void large_asked_key(void)
+{
+    answered = cose_large_asked_key(&large, &asked);
+}
+static void large_asked_signature(void)
+{
+    answered = cose_large_asked_signature(&large, &signature);
+}
+static void large_verdict_of_mac(void)
+{
+    cose_large_verdict_of_mac(&large, room, 32, &verdict);
+}
+static void large_verdict_of_answer(void)
+{
+    cose_large_verdict_of_answer(&large, cose_large_message_number(&large), 1, &verdict);
+}
 static void numbers(void)
 {
     number = cose_wanted(&verifier) + cose_payload_wanted(&verifier) + cose_taken(&verifier) + cose_held(&verifier) +
              cose_message_number(&verifier) + cose_version() + cose_verifier_size() + cose_verifier_align() +
-             cose_table_size() + cose_table_align() + cose_maker_size() + cose_maker_align();
+             cose_table_size() + cose_table_align() + cose_maker_size() + cose_maker_align() + cose_signer_size() +
+             cose_signer_align();
 }
 static void large_numbers(void)
 {
@@ -345,6 +421,27 @@ static void make_piece(void)
 static void make_end(void)
 {
     cose_make_end(&maker, room, sizeof room, &made);
+}
+static void signer_begin(void)
+{
+    cose_signer_begin(block);
+}
+static void make_sign1(void)
+{
+    cose_make_sign1(&signer, -36, (const uint8_t *)"kid", 3, NULL, 0, payload.length, room, sizeof room, &made);
+}
+static void make_sign1_piece(void)
+{
+    number = cose_make_sign1_piece(&signer, OF(payload));
+}
+static void make_sign1_digest(void)
+{
+    cose_make_sign1_digest(&signer, room, sizeof room, &made);
+}
+static void make_sign1_end(void)
+{
+    static const uint8_t signature[132];
+    cose_make_sign1_end(&signer, signature, sizeof signature, room, sizeof room, &made);
 }
 static void large_verify(void)
 {
@@ -448,6 +545,9 @@ static const struct {
     {"verdict", decide, SMALL, &verdict.reason, COSE_REASON_BAD_AUTH},
     {"verdict_for", decide_for, SMALL, &verdict.reason, COSE_REASON_BAD_AUTH},
     {"reset", reset, SMALL, NULL, 0},
+    {"wipe_bytes", wipe_bytes, SMALL, NULL, 0},
+    {"key_of", key_of, SMALL, &item.present, 1},
+    {"mismatch", mismatch, SMALL, &fit.status, COSE_COMPLETE},
     {"open_detached", open_beside, SMALL, &status.status, COSE_MORE},
     {"feed, to the payload", feed_head, SMALL, &fed.status.status, COSE_PAYLOAD_NEXT},
     {"feed_payload", feed_payload, SMALL, NULL, 0},
@@ -466,6 +566,22 @@ static const struct {
     {"large_open_detached", large_open_beside, SMALL, &status.status, COSE_MORE},
     {"large_feed, to the payload", large_feed_head, SMALL, &fed.status.status, COSE_PAYLOAD_NEXT},
     {"large_feed_payload", large_feed_payload, SMALL, NULL, 0},
+    {"open_elsewhere", open_elsewhere, SMALL, &status.status, COSE_MORE},
+    {"feed, elsewhere", feed, SMALL, &fed.status.status, COSE_COMPLETE},
+    {"front_pieces", front_pieces, SMALL, &answered, 1},
+    {"asked_key", asked_key, SMALL, &answered, 1},
+    {"asked_signature", asked_signature, SMALL, &answered, 0},
+    {"verdict_of_answer", verdict_of_answer, SMALL, &verdict.status, COSE_BAD_ARGUMENT},
+    {"verdict_of_mac", verdict_of_mac, SMALL, &verdict.reason, COSE_REASON_BAD_AUTH},
+    {"open_elsewhere_detached", open_elsewhere_beside, SMALL, &status.status, COSE_MORE},
+    {"large_open_elsewhere", large_open_elsewhere, SMALL, &status.status, COSE_MORE},
+    {"large_feed, elsewhere", large_feed, SMALL, &fed.status.status, COSE_COMPLETE},
+    {"large_front_pieces", large_front_pieces, SMALL, &answered, 1},
+    {"large_asked_key", large_asked_key, SMALL, &answered, 1},
+    {"large_asked_signature", large_asked_signature, SMALL, &answered, 0},
+    {"large_verdict_of_answer", large_verdict_of_answer, SMALL, &verdict.status, COSE_BAD_ARGUMENT},
+    {"large_verdict_of_mac", large_verdict_of_mac, SMALL, &verdict.reason, COSE_REASON_BAD_AUTH},
+    {"large_open_elsewhere_detached", large_open_elsewhere_beside, SMALL, &status.status, COSE_MORE},
     {"table_begin", table_begin, SMALL, NULL, 0},
     {"table_read", table_read, TABLE, &key_set.status, COSE_COMPLETE},
     {"table_verify", table_verify, SMALL, &verdict.reason, COSE_REASON_AMBIGUOUS_KEY},
@@ -475,6 +591,11 @@ static const struct {
     {"make", make, SMALL, &made.status, COSE_MORE},
     {"make_piece", make_piece, SMALL, NULL, 0},
     {"make_end", make_end, SMALL, &made.status, COSE_COMPLETE},
+    {"signer_begin", signer_begin, SMALL, NULL, 0},
+    {"make_sign1", make_sign1, SMALL, &made.status, COSE_MORE},
+    {"make_sign1_piece", make_sign1_piece, SMALL, NULL, 0},
+    {"make_sign1_digest", make_sign1_digest, SMALL, &made.status, COSE_COMPLETE},
+    {"make_sign1_end", make_sign1_end, SMALL, &made.status, COSE_COMPLETE},
     {"large_verify", large_verify, LARGE, &verdict.reason, COSE_REASON_BAD_AUTH},
     {"large_verify_detached", large_beside, LARGE, &verdict.reason, COSE_REASON_BAD_AUTH},
     {"large_parameter", large_parameter, LARGE, &item.present, 1},

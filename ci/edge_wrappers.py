@@ -10,7 +10,7 @@ import edge_source as source
 
 NUMBERS = {"u8": "uint8_t", "u32": "uint32_t", "u64": "uint64_t", "i32": "int32_t", "i64": "int64_t", "usize": "uint64_t"}
 # calls that open, read or make something: with NULL they are made with nothing, so that the block has nothing then
-CLOSING = re.compile("^cose_edge_(large_)?open|^cose_edge_table_read$|^cose_edge_make$")
+CLOSING = re.compile("^cose_edge_(large_)?open|^cose_edge_table_read$|^cose_edge_make(_sign1)?$")
 WIDTH = 138
 LAST = "#ifdef __cplusplus\n}\n#endif\n#endif\n"
 
@@ -88,8 +88,10 @@ def declaration(export, name, parameters, in_wrapper):
 
 
 def bad_argument(parameters):
-    """The lines by which an answer says that an argument is NULL."""
-    out = next(it for it in parameters if it.is_out)
+    """The lines by which an answer, if there is one, says that an argument is NULL."""
+    out = next((it for it in parameters if it.is_out), None)
+    if out is None:
+        return []
     status = {"u8": "status", "CoseStatus": "status.status"}.get(out.fields().get("status"))
     lines = [f"        memset({out.name}, 0, sizeof *{out.name});"]
     return lines + [f"        {out.name}->{status} = COSE_BAD_ARGUMENT;"] if status else lines
@@ -116,10 +118,15 @@ def wrapper(export):
     stated = [it for it in parameters if it.is_stated]
     lines += [f"    {it.declared(True)[0].split(' *')[0].replace('const ', '')} cose_{it.name}_ = *{it.name};" for it in stated]
     tests = [it for each in parameters for it in each.tests()]
-    condition = f"    if ({' || '.join(tests)}) {{"
-    lines.append(condition if len(condition) <= WIDTH and len(tests) < 4 else "    if (" + " ||\n        ".join(tests) + ") {")
-    lines += [*answer_to_null(export, parameters), "    }"]
+    if tests:
+        condition = f"    if ({' || '.join(tests)}) {{"
+        lines.append(condition if len(condition) <= WIDTH and len(tests) < 4 else "    if (" + " ||\n        ".join(tests) + ") {")
+        lines += [*answer_to_null(export, parameters), "    }"]
     lines += [f"    cose_{it.name}_.{field} = cose_slice_({it.name}->{field});" for it in stated for field in it.slices()]
+    # a slice that an answer has is one before it is written too
+    for it in parameters:
+        if it.is_out:
+            lines += [line for field in it.slices() for line in (f"    {it.name}->{field} = cose_slice_(NULL);", f"    {it.name}->{field}_length = 0;")]
     passed = ", ".join(it for each in parameters for it in each.passed())
     return "\n".join([*lines, wrapped(f"{'return ' if export.result else ''}{export.name}({passed});", "    "), "}"])
 
@@ -134,7 +141,8 @@ def in_header(text):
         text, count = re.subn(rf"^\w+ {export.name}\([^)]*\);", lambda _: declared, text, flags=re.M)
         if not count:
             comment = wrapped(f"/** {export.text} */", "").replace("\n    ", "\n * ")
-            added = f"{declared}\n\n{comment}\n{made}\n" if made else f"{comment}\n{declared}\n"
+            used = "COSE_MUST_USE_\n" if export.result else ""
+            added = f"{used}{declared}\n\n{comment}\n{used}{made}\n" if made else f"{comment}\n{used}{declared}\n"
             text = text.replace(LAST, f"{added}\n{LAST}")
         elif made:
             text = re.sub(rf"^static inline \w+ {name}\([^)]*\)\n\{{\n.*?^\}}", lambda _: made, text, flags=re.M | re.S)

@@ -145,6 +145,7 @@ PLACES = {
             "crates/cose_cwt/src/lib.rt bindings/rust/src/lib.rs bindings/rust/src/sign_input.rs "
             "bindings/python/src/cose/_arguments.py bindings/python/src/cose/signatures.py bindings/go/cose.go",
         ),
+        Places("algorithm for signatures", of_row, "rows/signed.json"),
         Places("algorithm for MACs", of_row, "rows/macs.json rows/made.json"),
         Places("algorithm for MACs", of_tuple, "ci/mac_messages.py"),
         Places("algorithm for MACs", of_help, "crates/cosecmd/src/commands.rt docs/COMMANDS.md"),
@@ -203,14 +204,14 @@ PLACES = {
         Places("export", of_short_call, "bindings/python/src/cose/_library.py"),
         # (what a layer doesn't offer; in JavaScript also what it calls by a name that it composes)
         Places("call", of_call, "bindings/rust/src/[!r]*.rs"),
-        Places("call", of_call, "bindings/python/src/cose/[!_]*.py", "message_number next_audience verdict_for version"),
+        Places("call", of_call, "bindings/python/src/cose/[!_]*.py", "next_audience verdict_for version wipe_bytes"),
         Places("call", of_call, "bindings/go/*.[gh]*", "item_at next_audience verdict_for version"),
         Places(
             "call",
             of_call,
             "bindings/js/[ct]*.js",
-            "item_at message_number next_audience verdict_for version maker_size maker_align parameter_named table_size "
-            "table_align verifier_size verifier_align table_verify table_verify_cwt verify_detached",
+            "item_at next_audience verdict_for version maker_size maker_align signer_size signer_align parameter_named table_size "
+            "table_align verifier_size verifier_align table_verify table_verify_cwt verify_detached open_elsewhere_detached",
         ),
     ],
 }

@@ -30,6 +30,7 @@ SHARED = {
     "cose_map::key::Key::read",
     "cose_map::key_set::KeySet::find",
     "cose_map::key_set::KeySetKeys::find",
+    "cose_map::bucket::both::check_pair",
     "cose_map::key_set::usable",
     "cose_map::map::ahead::read_ahead",
     "cose_map::map::labels::Labels::none",
@@ -38,9 +39,12 @@ SHARED = {
     "cose_map::map::lookup::Lookup::new",
     "cose_map::map::unordered::Unordered::none",
     "cose_map::map::unordered::Unordered::push",
-    "cose_msg::reader::choice::key_for",
     "core::array::ArrayDefault::default",
     "core::array::DefaultsElements::at",
+}
+# what isn't inlined there: the search for the key isn't on the stack while both buckets are read
+APART = {
+    "cose_msg::reader::choice::key_for",
 }
 # what is long, since there are no vectors
 OUT_OF_LINE = {
@@ -60,8 +64,12 @@ HOLDING = {
     "cose_map::map::read::check_in_any_order",
 }
 EXPORTED = "cose_"
-# what takes most of the time stays as it is made for speed
+# what takes most of the time stays as it is made for speed, but that four of its steps are in one place and not in several
 HASHING = "sha2::block256::"
+STEPS = {
+    "sha2::block256::first_four_steps",
+    "sha2::block256::four_steps",
+}
 # what an attribute may say of inlining, and what it says of each kind of function
 ABOUT = ("alwaysinline", "inlinehint", "noinline")
 SIZES = {
@@ -70,6 +78,7 @@ SIZES = {
     "small": "minsize optsize",
     "inlined": "alwaysinline optsize",
     "shared": "alwaysinline",
+    "apart": "noinline",
     "out of line": "minsize noinline optsize",
 }
 
@@ -92,11 +101,13 @@ class Inlining:
         plain = name.lstrip("@").strip('"').split("::<")[0]
         self.seen.add(plain)
         if self.is_for_speed:
-            return "shared" if plain in SHARED else None
+            return "shared" if plain in SHARED else "apart" if plain in APART else None
         if plain in INLINED:
             return "inlined"
         if plain in OUT_OF_LINE:
             return "out of line"
+        if plain in STEPS:
+            return "plain out of line"
         if plain.startswith(HASHING):
             return "as it is"
         is_out_of_line = "noinline" in self.groups[group][0]
@@ -125,5 +136,5 @@ class Inlining:
 
     def missing(self):
         """The functions that are named above and aren't there."""
-        named = SHARED if self.is_for_speed else INLINED | OUT_OF_LINE | HOLDING
+        named = SHARED | APART if self.is_for_speed else INLINED | OUT_OF_LINE | STEPS | HOLDING
         return sorted(named - self.seen)

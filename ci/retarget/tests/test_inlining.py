@@ -2,7 +2,7 @@
 import re
 import unittest
 
-from retarget.inlining import HOLDING, INLINED, OUT_OF_LINE, SHARED, Inlining
+from retarget.inlining import APART, HOLDING, INLINED, OUT_OF_LINE, SHARED, STEPS, Inlining
 
 from . import CONSTANT, HEAD, TAIL
 from .test_rules import rewritten
@@ -28,6 +28,8 @@ class Inlined(unittest.TestCase):
         self.assertEqual(attributes("@f", 3, way="speed"), "noinline nounwind")
         for name in SHARED:
             self.assertEqual(attributes(f'@"{name}::<=8>"', 0, way="speed"), "alwaysinline nounwind")
+        for name in APART:
+            self.assertEqual(attributes(f'@"{name}::<=8>"', 2, way="speed"), "noinline nounwind")
 
     def test_others(self):
         for group in 0, 2, 4:
@@ -46,13 +48,15 @@ class Inlined(unittest.TestCase):
     def test_hashing(self):
         self.assertEqual(attributes('@"sha2::block256::round"', 2), "alwaysinline optsize nounwind")
         self.assertEqual(attributes('@"sha2::block256::compress"', 0), "optsize nounwind")
+        for name in STEPS:
+            self.assertEqual(attributes(f'@"{name}"', 2), "noinline optsize nounwind")
 
     def test_exports(self):
         self.assertEqual(attributes("@cose_edge_open", 0, ""), "optsize nounwind")
         self.assertEqual(attributes('@"cose_c::open"', 0), "minsize optsize nounwind")
 
     def test_missing(self):
-        for way, names in ("size", INLINED | OUT_OF_LINE | HOLDING), ("speed", SHARED):
+        for way, names in ("size", INLINED | OUT_OF_LINE | STEPS | HOLDING), ("speed", SHARED | APART):
             inlining = Inlining(GROUPS, way)
             for name in names:
                 self.assertIn(name, inlining.missing())
