@@ -1,12 +1,14 @@
 // The package `cose` for Node: messages and tokens, by the module that ci/web_module builds.
 import { readFile } from "node:fs/promises";
 import low from "./cose.js";
+import elsewhere from "./cose_elsewhere.js";
 import signing from "./cose_sign1.js";
 import items from "./items.js";
 import reasons from "./reasons.js";
 import signatures from "./signatures.js";
 
-export const { KeyTable, Verifier, Elsewhere, Maker, STATUS, WANTED, UNMET, MISMATCH } = low;
+export const { Elsewhere } = elsewhere;
+export const { KeyTable, Verifier, Maker, STATUS, WANTED, UNMET, MISMATCH } = low;
 export const { Sign1Maker, sign1 } = signing;
 export const { decodeItem, Tagged, Simple } = items;
 export const { REASONS, reasonOf } = reasons;
