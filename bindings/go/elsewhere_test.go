@@ -9,8 +9,12 @@ import (
 	_ "crypto/sha256"
 	_ "crypto/sha512"
 	"encoding/hex"
+	"encoding/json"
 	"errors"
 	"fmt"
+	"os"
+	"path/filepath"
+	"testing"
 
 	"cose"
 )
@@ -134,4 +138,132 @@ func (g *group) runElsewhere(r *row, length *uint64, large bool, size int) error
 		return nil
 	}
 	return differs(how+", payload", hex.EncodeToString(came.Bytes()), fmt.Sprint(r.Result.Payload))
+}
+
+// statedRow is a row of rows/elsewhere.json.
+type statedRow struct {
+	TcID    int
+	Comment string
+	Message octets
+	Earlier *octets
+	MAC     *octets
+	Holds   bool
+	Front   octets
+	Key     octets
+	Result  result
+}
+
+// said is the answer to what a row states of a message that is fed in pieces of so many bytes.
+func (g *group) said(r *statedRow, large bool, size int) (string, error) {
+	v, err := cose.NewElsewhere(g.Keys, &cose.Options{AAD: g.AAD, Wanted: kinds[g.Wanted], Large: large})
+	if err != nil {
+		return "", err
+	}
+	defer v.Close()
+	var came bytes.Buffer
+	_, err = feed(v, r.Message, size, &came)
+	known, fault := knownOf(v)
+	if fault != nil {
+		return "", fault
+	}
+	var verdict *cose.Verdict
+	if err == nil {
+		verdict, err = r.state(v)
+	}
+	var refused *cose.Refused
+	if err != nil && !errors.As(err, &refused) {
+		return known + " none", nil
+	}
+	said := fmt.Sprintf("%s %s", known, decided(verdict, err))
+	if err == nil {
+		said += fmt.Sprintf(" %x", came.Bytes())
+	}
+	return said, nil
+}
+
+// knownOf is the structure before the payload and the key, where they are known.
+func knownOf(v *cose.Elsewhere) (string, error) {
+	front, err := v.Front()
+	if err != nil {
+		return "", err
+	}
+	key, err := v.AskedKey()
+	if err != nil {
+		return "", err
+	}
+	var material []byte
+	if key != nil && key.Point != nil {
+		material = key.Point.X
+	} else if key != nil {
+		material = key.K
+	}
+	return fmt.Sprintf("%x %x", bytes.Join(front, nil), material), nil
+}
+
+// state says what a row states, and that is all where the message is complete.
+func (r *statedRow) state(v *cose.Elsewhere) (*cose.Verdict, error) {
+	if err := v.End(); err != nil {
+		return nil, err
+	}
+	if r.Earlier != nil {
+		// whatever comes of it, the second statement is what is asked about
+		_, _ = v.VerdictOfMAC(*r.Earlier)
+	}
+	if r.MAC != nil {
+		return v.VerdictOfMAC(*r.MAC)
+	}
+	if _, err := v.AskedSignature(); err != nil {
+		return nil, err
+	}
+	return v.VerdictOfAnswer(r.Holds)
+}
+
+// expected is what a row says.
+func (r *statedRow) expected() string {
+	known := fmt.Sprintf("%x %x ", r.Front, r.Key)
+	if r.Result.Verdict == "none" {
+		return known + "none"
+	}
+	payload, _ := r.Result.Payload.(string)
+	said := known + r.Result.expected(fmt.Sprint(len(payload)/2))
+	if r.Result.isGood() {
+		said += " " + payload
+	}
+	return said
+}
+
+func TestStatedRows(t *testing.T) {
+	text, err := os.ReadFile(filepath.Join("..", "..", "rows", "elsewhere.json"))
+	if err != nil {
+		t.Fatal(err)
+	}
+	var file struct {
+		NumberOfTests int
+		TestGroups    []struct {
+			group
+			Tests []statedRow
+		}
+	}
+	if err = json.Unmarshal(text, &file); err != nil {
+		t.Fatal(err)
+	}
+	run := 0
+	for i := range file.TestGroups {
+		g := &file.TestGroups[i]
+		for j := range g.Tests {
+			r := &g.Tests[j]
+			run++
+			for _, size := range cuts {
+				for _, large := range []bool{false, true} {
+					seen, err := g.said(r, large, size)
+					if err != nil || seen != r.expected() {
+						t.Errorf("elsewhere %d, large %v, pieces of %d: %s, %v, and not %s", r.TcID, large, size, seen, err, r.expected())
+					}
+				}
+			}
+		}
+	}
+	if run == 0 || run != file.NumberOfTests {
+		t.Errorf("elsewhere: %d run of %d", run, file.NumberOfTests)
+	}
 }

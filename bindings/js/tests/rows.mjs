@@ -8,7 +8,7 @@
 import assert from "node:assert/strict";
 import { readFileSync } from "node:fs";
 import { fileURLToPath } from "node:url";
-import { KeyTable, load, Maker, reasonOf, Refused, Sign1Maker, STATUS, UNMET, Verifier } from "../index.mjs";
+import { Elsewhere, KeyTable, load, Maker, reasonOf, Refused, Sign1Maker, STATUS, UNMET, Verifier } from "../index.mjs";
 
 const ROWS = new URL("../../../rows/", import.meta.url);
 const CUTS = [1, 2, 7, 64, 65_536];
@@ -176,6 +176,41 @@ function runDetached(group, test) {
         const content = payload.subarray(0, Number(length));
         const seen = inOneCall(keys, message.subarray(0, result.taken), test, { ...settings, payload: content });
         equal(seen, expected(result, hex(content)), "verify, detached");
+    }
+}
+
+// ---- messages that the caller authenticates
+
+/** What a row states, and the answer. */
+function saidBy(verifier, test) {
+    const last = verifier.end();
+    if (last.status !== STATUS.COMPLETE) return refused(last);
+    if ("earlier" in test) verifier.verdictOfMac(octets(test.earlier));
+    verifier.askedSignature();
+    const verdict = "mac" in test ? verifier.verdictOfMac(octets(test.mac)) : verifier.verdictOfAnswer(test.holds);
+    if (verdict.status === STATUS.BAD_ARGUMENT) return ["none"];
+    if (verdict.status !== STATUS.AUTHENTIC) return refused(verdict);
+    return ["authentic", KINDS[verdict.kind], verdict.alg, verdict.payloadLength, verdict.taken];
+}
+
+/** What a caller states of a message after its last byte. */
+function runStated(group, test) {
+    const { result } = test;
+    const isGood = result.verdict === "authentic";
+    const wanted = result.verdict === "none" ? ["none"] : expected(result, isGood ? result.payload.length / 2 : 0);
+    for (const { large } of SIZES) {
+        for (const size of CUTS) {
+            const [verifier, came, how] = [new Elsewhere(cose, { large }), [], `Elsewhere, large: ${large}, pieces of ${size}`];
+            verifier.open(octets(group.keys), { aad: octets(group.aad), wanted: WANTED[group.wanted] });
+            feed(verifier, octets(test.message), size, came);
+            const [front, key] = [verifier.front(), verifier.askedKey()];
+            equal(front && hex(Buffer.concat(front)), test.front, `${how}, front`);
+            equal(key && hex(key.k ?? key.x), test.key, `${how}, key`);
+            equal(saidBy(verifier, test), wanted, how);
+            if (result.verdict !== "none") equal(verifier.taken, result.taken, `${how}, taken`);
+            if (isGood) equal(hex(came), result.payload, `${how}, payload`);
+            verifier.close();
+        }
     }
 }
 
@@ -419,6 +454,7 @@ function runSigned(group, test) {
 const RUNNERS = {
     messages: runMessage,
     detached: runDetached,
+    elsewhere: runStated,
     shapes: runShape,
     tokens: runToken,
     claims: runClaims,

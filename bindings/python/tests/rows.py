@@ -14,6 +14,7 @@ import collections
 import functools
 import hashlib
 import hmac
+import itertools
 import json
 import pathlib
 import sys
@@ -249,6 +250,50 @@ def run_elsewhere(
             equal(count, result["payloadTaken"], f"{how}, taken of the payload")
         elif is_good:
             equal(bytes(content), payload, f"{how}, payload")
+
+
+def known(verifier: cose.Elsewhere) -> Tuple[Optional[str], Optional[str]]:
+    """The structure before the payload, and the key, where they are known."""
+    front, key = verifier.front(), verifier.asked_key()
+    if front is None or key is None:
+        return None, None
+    material = key.x if key.k is None else key.k
+    assert material is not None
+    return b"".join(front).hex(), material.hex()
+
+
+def said_by(verifier: cose.Elsewhere, test: Row) -> Answer:
+    """The answer to what a row states."""
+    if "earlier" in test:
+        answer(lambda: ("earlier", verifier.verdict_of_mac(octets(test, "earlier"))))
+    try:
+        if "mac" in test:
+            found = verifier.verdict_of_mac(octets(test, "mac"))
+        else:
+            verifier.asked_signature()
+            found = verifier.verdict_of_answer(test["holds"])
+    except ValueError as fault:
+        if isinstance(fault, cose.Refused):
+            raise
+        return ("none",)
+    return "authentic", found.kind.name.lower(), int(found.alg), found.payload_length, found.taken
+
+
+def run_stated(group: Row, test: Row) -> None:
+    """What a caller states of a message after its last byte."""
+    result, options = test["result"], {"aad": octets(group, "aad"), "wanted": KINDS[group["wanted"]]}
+    wanted = ("none",) if result["verdict"] == "none" else None
+    for large, size in itertools.product((False, True), CUTS):
+        came, how = bytearray(), f"Elsewhere, large: {large}, pieces of {size}"
+        with cose.Elsewhere(octets(group, "keys"), large=large, **options) as verifier:
+            answer(lambda: fed(verifier, octets(test, "message"), size, came))
+            equal(known(verifier), (test.get("front"), test.get("key")), how)
+            seen = answer(lambda: said_by(verifier, test))
+            equal(seen, wanted or expected(result, len(came)), how)
+            if result["verdict"] != "none":
+                equal(verifier.taken, result["taken"], f"{how}, taken")
+            if result["verdict"] == "authentic":
+                equal(bytes(came), octets(result, "payload"), f"{how}, payload")
 
 
 def run_message(group: Row, test: Row) -> None:
@@ -676,6 +721,7 @@ def run_signed(group: Row, test: Row) -> None:
 RUNNERS: Dict[str, Callable[[Row, Row], None]] = {
     "messages": run_message,
     "detached": run_detached,
+    "elsewhere": run_stated,
     "shapes": run_shape,
     "tokens": run_token,
     "claims": run_claims,

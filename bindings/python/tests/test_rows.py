@@ -12,6 +12,7 @@ class Rows(unittest.TestCase):
     LEFT_OUT = {
         "messages": 68,
         "detached": 7,
+        "elsewhere": 0,
         "shapes": 7,
         "tokens": 4,
         "claims": 23,
