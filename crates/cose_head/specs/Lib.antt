@@ -1,5 +1,6 @@
 pub mod Reason
 pub mod Algorithm
+pub mod Further
 pub mod Refusal
 pub mod Hidden
 pub mod Head

@@ -78,7 +78,7 @@ pub record HasPut (room : ℕ) (put : List ℕ) {D : ℕ} (w : Walker D) : Type 
   pub taken : w.place + length w.half.items ≡ length put
   pub left : w.place + w.room ≡ room
   pub waits : 0 < room → Waits w
-  pub going : last_step w ≡ Going
+  pub is_going : last_step w ≡ Going
 
 -- The answer of reading that a step says.
 abbrev pub Answers : ℕ → List ℕ → Step → Outcome Item → Type 0

@@ -29,7 +29,7 @@ fn head_so_far(first: &[u8], room: usize) -> Result<Option<Head>, Reason>
 }
 
 /// Takes the next byte of an item's head, and returns the head if it is complete.
-#[tactic(auto, using(crate::proofs::HalfHead::half_is_short))]
+#[tactic(auto, using(crate::proofs::lemmas::Head::HalfHead::half_is_short))]
 pub(crate) fn take_head_byte(
     half: &mut ArrayVec<u8, 9>,
     byte: u8,

@@ -83,7 +83,7 @@ impl<'a> ItemRef<'a> {
     }
 
     /// The head of the item.
-    #[tactic(auto, unfolding(crate::specs::Placed::head_of_item), using(crate::proofs::Heads::got_width, crate::proofs::Whole::one_item_is_no_half, crate::proofs::Whole::one_item_is_no_fault))]
+    #[tactic(auto, unfolding(crate::specs::Placed::head_of_item), using(crate::proofs::lemmas::Head::Heads::got_width, crate::proofs::lemmas::Placed::Whole::one_item_is_no_half, crate::proofs::lemmas::Placed::Whole::one_item_is_no_fault))]
     pub fn head(&self) -> Head
         ensures exact { result ≡ head_of_item (placed self.now) }
         ensures there { result.width ≤ length self.now.bytes.now }
@@ -102,7 +102,7 @@ impl<'a> ItemRef<'a> {
     }
 
     /// The integer, if the item is one.
-    #[tactic(auto, unfolding(crate::specs::Placed::look), using(crate::proofs::Placed::unsigned_found, crate::proofs::Placed::negative_found, crate::proofs::Placed::no_integer))]
+    #[tactic(auto, unfolding(crate::specs::Placed::look), using(crate::proofs::lemmas::Placed::Placed::unsigned_found, crate::proofs::lemmas::Placed::Placed::negative_found, crate::proofs::lemmas::Placed::Placed::no_integer))]
     pub fn as_int(&self) -> Option<i128>
         ensures { result ≡ integer_in (look (placed self.now)) }
     {
@@ -115,7 +115,7 @@ impl<'a> ItemRef<'a> {
     }
 
     /// The content of the byte string, if the item is one.
-    #[tactic(auto, unfolding(crate::specs::Placed::look), using(crate::proofs::Placed::bytes_found, crate::proofs::Placed::no_bytes))]
+    #[tactic(auto, unfolding(crate::specs::Placed::look), using(crate::proofs::lemmas::Placed::Placed::bytes_found, crate::proofs::lemmas::Placed::Placed::no_bytes))]
     pub fn as_bytes(&self) -> Option<&'a [u8]>
         ensures { option_map (λ bytes. bytes.now) result ≡ bytes_in (look (placed self.now)) }
     {
@@ -128,7 +128,7 @@ impl<'a> ItemRef<'a> {
 
     /// The content of the text string, if the item is one and it is UTF-8.
     #[inline(always)]
-    #[tactic(auto, unfolding(crate::specs::Placed::look), using(crate::proofs::Placed::text_found, crate::proofs::Placed::no_text))]
+    #[tactic(auto, unfolding(crate::specs::Placed::look), using(crate::proofs::lemmas::Placed::Placed::text_found, crate::proofs::lemmas::Placed::Placed::no_text))]
     pub fn as_text(&self) -> Option<&'a str>
         ensures { option_map (λ text. text.now) result ≡ text_in (look (placed self.now)) }
     {
@@ -140,7 +140,7 @@ impl<'a> ItemRef<'a> {
     }
 
     /// The Boolean value, if the item is false or true.
-    #[tactic(auto, unfolding(crate::specs::Placed::look), using(crate::proofs::Placed::truth_found, crate::proofs::Placed::no_truth))]
+    #[tactic(auto, unfolding(crate::specs::Placed::look), using(crate::proofs::lemmas::Placed::Placed::truth_found, crate::proofs::lemmas::Placed::Placed::no_truth))]
     pub fn as_bool(&self) -> Option<bool>
         ensures { result ≡ truth_in (look (placed self.now)) }
     {
@@ -171,7 +171,7 @@ impl<'a> ItemRef<'a> {
     }
 
     /// Whether the item is a text string, UTF-8 or not.
-    #[tactic(auto, unfolding(crate::specs::Placed::look), using(crate::proofs::Placed::any_text_found))]
+    #[tactic(auto, unfolding(crate::specs::Placed::look), using(crate::proofs::lemmas::Placed::Placed::any_text_found))]
     pub fn is_text(&self) -> bool
         ensures { result ≡ is_a_text (look (placed self.now)) }
     {
@@ -179,7 +179,7 @@ impl<'a> ItemRef<'a> {
     }
 
     /// Whether the item is a float.
-    #[tactic(auto, unfolding(crate::specs::Placed::look), using(crate::proofs::Placed::float_found, crate::proofs::Placed::no_float))]
+    #[tactic(auto, unfolding(crate::specs::Placed::look), using(crate::proofs::lemmas::Placed::Placed::float_found, crate::proofs::lemmas::Placed::Placed::no_float))]
     pub fn is_float(&self) -> bool
         ensures { result ≡ is_a_float (look (placed self.now)) }
     {
@@ -188,7 +188,7 @@ impl<'a> ItemRef<'a> {
     }
 
     /// Whether the item is an array.
-    #[tactic(auto, unfolding(crate::specs::Placed::look), using(crate::proofs::Placed::array_found))]
+    #[tactic(auto, unfolding(crate::specs::Placed::look), using(crate::proofs::lemmas::Placed::Placed::array_found))]
     pub fn is_array(&self) -> bool
         ensures { result ≡ is_an_array (look (placed self.now)) }
     {
@@ -196,7 +196,7 @@ impl<'a> ItemRef<'a> {
     }
 
     /// Whether the item is a map.
-    #[tactic(auto, unfolding(crate::specs::Placed::look), using(crate::proofs::Placed::map_found))]
+    #[tactic(auto, unfolding(crate::specs::Placed::look), using(crate::proofs::lemmas::Placed::Placed::map_found))]
     pub fn is_map(&self) -> bool
         ensures { result ≡ is_a_map (look (placed self.now)) }
     {

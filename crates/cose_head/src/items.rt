@@ -48,7 +48,7 @@ impl<'a> Items<'a> {
     /// an array nor a map.
     ///
     /// [`ItemRef::read`] checks that bytes are one item, and [`Items::of`] gives the children of what it reads.
-    #[tactic(auto, unfolding(crate::specs::Placed::head_of_item, crate::specs::Placed::children_of), using(crate::proofs::Heads::got_width, crate::proofs::Placed::few_items, crate::proofs::Whole::one_item_is_no_half, crate::proofs::Whole::one_item_is_no_fault))]
+    #[tactic(auto, unfolding(crate::specs::Placed::head_of_item, crate::specs::Placed::children_of), using(crate::proofs::lemmas::Head::Heads::got_width, crate::proofs::lemmas::Placed::Placed::few_items, crate::proofs::lemmas::Placed::Whole::one_item_is_no_half, crate::proofs::lemmas::Placed::Whole::one_item_is_no_fault))]
     pub fn new(bytes: &'a [u8], at: u64) -> Option<Items<'a>>
         requires one_item { is_one_item bytes.now ≡ true }
         requires in_range { at + length bytes.now < 2 ^ 64 }
@@ -79,7 +79,7 @@ impl<'a> Items<'a> {
     }
 
     /// The children of an item, none where it is neither an array nor a map.
-    #[tactic(auto, unfolding(crate::specs::Placed::items_from), using(crate::proofs::Placed::its_children, crate::proofs::Placed::no_children))]
+    #[tactic(auto, unfolding(crate::specs::Placed::items_from), using(crate::proofs::lemmas::Placed::Placed::its_children, crate::proofs::lemmas::Placed::Placed::no_children))]
     pub fn of(item: &ItemRef<'a>) -> Items<'a>
         ensures { items_left result ≡ children_of (placed item.now) }
     {
@@ -101,7 +101,7 @@ impl<'a> Iterator for Items<'a> {
 
     ghost remaining = { item_count items_left };
 
-    #[tactic(auto, unfolding(crate::specs::Placed::items_from), using(crate::proofs::Placed::few_items))]
+    #[tactic(auto, unfolding(crate::specs::Placed::items_from), using(crate::proofs::lemmas::Placed::Placed::few_items))]
     fn next(&mut self) -> Option<ItemRef<'a>> {
         if self.left == 0 {
             return None;

@@ -8,7 +8,8 @@
 //! is allocated.
 //!
 //! [`Alg`] is the table of algorithms, four of HMAC and six of ECDSA: the [`Kind`] of message of each, its [`Hash`],
-//! and the [`KeyType`] of its keys.
+//! and the [`KeyType`] of its keys. [`FurtherAlg`] is that of the signature algorithms which are left to the caller, EdDSA, with the
+//! [`OkpCurve`]s of its keys.
 //!
 //! `Debug` of an [`ItemRef`] and of [`Items`] prints how many bytes there are, and none of them ([`Hidden`]): they may be a key's.
 //!
@@ -36,6 +37,7 @@
 #![tactic(auto)]
 
 mod algorithm;
+mod further;
 mod half_head;
 mod head;
 mod hidden;
@@ -49,6 +51,7 @@ mod refusal;
 mod walker;
 
 pub use algorithm::{Alg, Hash, KeyType};
+pub use further::{FurtherAlg, OkpCurve};
 pub use head::{Head, HeadStep, parse_head, write_head};
 pub use hidden::Hidden;
 pub use item::{Span, read_item};

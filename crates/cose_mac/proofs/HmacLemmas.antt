@@ -7,7 +7,7 @@ use Rattle.sha2.specs.Sha512.{sha384, sha512}
 use Rattle.sha2.specs.Sha512 as S512
 use Rattle.cose_head.specs.Algorithm.{is_mac_of, auth_length_of}
 use Rattle.cose_head.specs.declared.algorithm.Alg.{Alg}
-use Rattle.cose_head.proofs.Algorithms.{each_mac}
+use Rattle.cose_head.proofs.lemmas.Algorithms.{each_mac}
 use Rattle.cose_mac.specs.Hmac.{hmac, mac}
 
 pub length_mac : (alg : Alg) (key message : List ℕ) → IsTrue (is_mac_of alg) → length (mac alg key message) ≡ auth_length_of alg

@@ -1,6 +1,6 @@
 use Rattle.std.proofs.Common.{◌≡◌, ◌<◌, [], ◌∷◌, ◌++◌, length, sym, ap, arith}
 use Rattle.std.proofs.lemmas.List.{length-append}
-use Rattle.cose_head.proofs.HalfHead.{head-got, head-more, head-past_room, head-one_more, head-fault, more_is_half, half_wants}
+use Rattle.cose_head.proofs.lemmas.Head.HalfHead.{head-got, head-more, head-past_room, head-one_more, head-fault, more_is_half, half_wants}
 use Rattle.cose_head.proofs.half_head.head_so_far.Goals as goal
 
 pub returns-then-room-first : goal.returns-then-room-first

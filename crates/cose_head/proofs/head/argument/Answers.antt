@@ -1,5 +1,5 @@
 use Rattle.std.proofs.Common.{◌≡◌, ◌∙◌, length, arith}
-use Rattle.cose_head.proofs.HeadLemmas.{eight_byte_argument}
+use Rattle.cose_head.proofs.lemmas.Head.Arguments.{eight_byte_argument}
 use Rattle.cose_head.proofs.head.argument.Goals as goal
 
 pub returns-in-len8 : goal.returns-in-len8

@@ -3,8 +3,8 @@ use Rattle.std.proofs.lemmas.List.{length-drop}
 use Rattle.std.proofs.lemmas.Result.{err_from_is_err_and}
 use Rattle.cose_head.specs.Reading.{read, read_all}
 use Rattle.cose_head.specs.Measured.{left_of, nesting_all}
-use Rattle.cose_head.proofs.Measured.{item_refused}
-use Rattle.cose_head.proofs.ItemSteps.{leaf_done, string_done, string_refused, parent_refused, parent_done, children_refused, slice_from, items_next, items_done, ord_max-nat_cmp}
+use Rattle.cose_head.proofs.lemmas.Reading.Measured.{item_refused}
+use Rattle.cose_head.proofs.lemmas.Reading.ItemSteps.{leaf_done, string_done, string_refused, parent_refused, parent_done, children_refused, slice_from, items_next, items_done, ord_max-nat_cmp}
 use Rattle.cose_head.proofs.item.+item.Goals as goal
 
 pub any_item_at-returns-in_err-found-clause-exact : goal.any_item_at-returns-in_err-found-clause-exact

@@ -1,7 +1,7 @@
 use Rattle.std.proofs.Common.{◌≡◌, ◌+◌, ◌*◌, ◌-◌, ◌≤◌, length}
 use Rattle.cose_head.specs.Reading.{read, read_all}
 use Rattle.cose_head.specs.Measured.{left_of, nesting_all}
-use Rattle.cose_head.proofs.Measured.{onward}
+use Rattle.cose_head.proofs.lemmas.Reading.Measured.{onward}
 use Rattle.cose_head.proofs.item.+item.Given as goal
 
 -- an item is read with the allowance, and its children with one less

@@ -1,5 +1,5 @@
 use Rattle.std.proofs.Common.{◌≡◌, arith, length-take}
-use Rattle.cose_head.proofs.Heads.{head_got, head_past, head_short, head_fault, got_width}
+use Rattle.cose_head.proofs.lemmas.Head.Heads.{head_got, head_past, head_short, head_fault, got_width}
 use Rattle.cose_head.proofs.item.head_at.Goals as goal
 
 pub returns-in-Got-clause-exact : goal.returns-in-Got-clause-exact

@@ -1,5 +1,5 @@
-use Rattle.cose_head.proofs.ItemSteps.{whole_span}
-use Rattle.cose_head.proofs.Spans.{spans_item, spans_spelled, spans_placed}
+use Rattle.cose_head.proofs.lemmas.Reading.ItemSteps.{whole_span}
+use Rattle.cose_head.proofs.lemmas.Reading.Spans.{spans_item, spans_spelled, spans_placed}
 use Rattle.cose_head.specs.Measured.{left_of}
 use Rattle.cose_head.specs.Reading.{read}
 use Rattle.cose_head.proofs.item.read_item.Goals as goal

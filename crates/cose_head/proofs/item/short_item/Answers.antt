@@ -1,5 +1,5 @@
 use Rattle.std.proofs.Common.{◌+◌, ◌≤◌, ◌<◌, ◌%◌, slice_index_or, length, arith}
-use Rattle.cose_head.proofs.ItemSteps.{short_integer, short_string}
+use Rattle.cose_head.proofs.lemmas.Reading.ItemSteps.{short_integer, short_string}
 use Rattle.cose_head.proofs.item.short_item.Goals as goal
 
 pub returns-then-initial-lt64-clause-exact : goal.returns-then-initial-lt64-clause-exact

@@ -1,4 +1,4 @@
-use Rattle.cose_head.proofs.Measured.{string_whole}
+use Rattle.cose_head.proofs.lemmas.Reading.Measured.{string_whole}
 use Rattle.cose_head.specs.Measured.{left_of}
 use Rattle.cose_head.proofs.item.string_at.Goals as goal
 

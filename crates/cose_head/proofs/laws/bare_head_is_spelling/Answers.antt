@@ -1,6 +1,6 @@
-use Rattle.cose_head.proofs.Reasons.{head_reason}
-use Rattle.cose_head.proofs.HalfHead.{short_half, head_fits}
-use Rattle.cose_head.proofs.BareHeads.{bare_sound, bare_complete, bare_stays, bare_wants, bare_ends}
+use Rattle.cose_head.proofs.lemmas.Reasons.{head_reason}
+use Rattle.cose_head.proofs.lemmas.Head.HalfHead.{short_half, head_fits}
+use Rattle.cose_head.proofs.lemmas.Head.BareHeads.{bare_sound, bare_complete, bare_stays, bare_wants, bare_ends}
 use Rattle.cose_head.proofs.laws.bare_head_is_spelling.Goals as goal
 
 pub returns-clause-spelled : goal.returns-clause-spelled

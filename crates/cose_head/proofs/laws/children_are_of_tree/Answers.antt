@@ -1,5 +1,5 @@
-use Rattle.cose_head.proofs.PlacedTrees.{array_has_its_elements, map_has_its_pairs, others_have_none, tag_has_its_content, others_enclose_none}
-use Rattle.cose_head.proofs.Inside.{children_end_inside}
+use Rattle.cose_head.proofs.lemmas.Placed.PlacedTrees.{array_has_its_elements, map_has_its_pairs, others_have_none, tag_has_its_content, others_enclose_none}
+use Rattle.cose_head.proofs.lemmas.Placed.Inside.{children_end_inside}
 use Rattle.cose_head.proofs.laws.children_are_of_tree.Goals as goal
 
 pub returns-clause-array : goal.returns-clause-array

@@ -1,4 +1,4 @@
-use Rattle.cose_head.proofs.PlacedTrees.{look_is_of_tree, head_is_of_item}
+use Rattle.cose_head.proofs.lemmas.Placed.PlacedTrees.{look_is_of_tree, head_is_of_item}
 use Rattle.cose_head.proofs.laws.look_is_of_tree.Goals as goal
 
 pub returns-clause-look : goal.returns-clause-look

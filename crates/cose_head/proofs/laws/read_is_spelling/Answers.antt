@@ -1,4 +1,4 @@
-use Rattle.cose_head.proofs.ReadLaws.{sound, spelled_is_read, one_item, read_elsewhere}
+use Rattle.cose_head.proofs.lemmas.Reading.ReadLaws.{sound, spelled_is_read, one_item, read_elsewhere}
 use Rattle.cose_head.proofs.laws.read_is_spelling.Goals as goal
 
 pub returns-clause-spelled : goal.returns-clause-spelled

@@ -1,4 +1,4 @@
-use Rattle.cose_head.proofs.ReadLaws.{stays, refused_is_no_item}
+use Rattle.cose_head.proofs.lemmas.Reading.ReadLaws.{stays, refused_is_no_item}
 use Rattle.cose_head.proofs.laws.read_stays.Goals as goal
 
 pub returns-clause-stays : goal.returns-clause-stays

@@ -1,7 +1,7 @@
-use Rattle.cose_head.proofs.Reasons.{item_reason}
-use Rattle.cose_head.proofs.ReadMoves.{read_moves}
-use Rattle.cose_head.proofs.ReadSteps.{read_steps}
-use Rattle.cose_head.proofs.ReadLaws.{adds_up, truncated_has_room}
+use Rattle.cose_head.proofs.lemmas.Reasons.{item_reason}
+use Rattle.cose_head.proofs.lemmas.Reading.ReadMoves.{read_moves}
+use Rattle.cose_head.proofs.lemmas.Reading.ReadSteps.{read_steps}
+use Rattle.cose_head.proofs.lemmas.Reading.ReadLaws.{adds_up, truncated_has_room}
 use Rattle.cose_head.proofs.laws.read_steps.Goals as goal
 
 pub returns-clause-steps : goal.returns-clause-steps

@@ -1,6 +1,6 @@
-use Rattle.cose_head.proofs.ShortHeads.{shortest_is_head}
-use Rattle.cose_head.proofs.ShortItems.{shortest_spells}
-use Rattle.cose_head.proofs.ShortLeast.{shortest_least}
+use Rattle.cose_head.proofs.lemmas.Shortest.ShortHeads.{shortest_is_head}
+use Rattle.cose_head.proofs.lemmas.Shortest.ShortItems.{shortest_spells}
+use Rattle.cose_head.proofs.lemmas.Shortest.ShortLeast.{shortest_least}
 use Rattle.cose_head.proofs.laws.shortest_is_spelling.Goals as goal
 
 pub returns-clause-head : goal.returns-clause-head

@@ -1,4 +1,4 @@
-use Rattle.cose_head.proofs.WalkerLaws.{put_has_room, put_is_truncated, put_is_open, done_is_whole}
+use Rattle.cose_head.proofs.lemmas.Walker.WalkerLaws.{put_has_room, put_is_truncated, put_is_open, done_is_whole}
 use Rattle.cose_head.proofs.laws.walker_is_reading.Goals as goal
 
 pub returns-clause-room : goal.returns-clause-room

@@ -1,6 +1,6 @@
-use Rattle.cose_head.proofs.Reasons.{whole_reason}
+use Rattle.cose_head.proofs.lemmas.Reasons.{whole_reason}
 use Rattle.std.proofs.Common.{arith}
-use Rattle.cose_head.proofs.Whole.{whole_is_item, item_is_whole, whole_is_deeper, refused_inside, one_item_is_whole, whole_is_one_item}
+use Rattle.cose_head.proofs.lemmas.Placed.Whole.{whole_is_item, item_is_whole, whole_is_deeper, refused_inside, one_item_is_whole, whole_is_one_item}
 use Rattle.cose_head.proofs.laws.whole_is_one_item.Goals as goal
 
 pub returns-clause-tree : goal.returns-clause-tree

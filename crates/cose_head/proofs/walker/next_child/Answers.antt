@@ -1,6 +1,6 @@
 use Rattle.std.proofs.Common.{◌≡◌, ◌∙◌, ap, ◌∷◌, ◌++◌, [], length, arith}
 use Rattle.std.proofs.lemmas.List.{length-append}
-use Rattle.cose_head.proofs.Walking.{finish-taken_last, finish-taken_next, finish-taken_all}
+use Rattle.cose_head.proofs.lemmas.Walker.Walking.{finish-taken_last, finish-taken_next, finish-taken_all}
 use Rattle.cose_head.proofs.walker.next_child.Goals as goal
 
 pub returns-then-left-gt0 : goal.returns-then-left-gt0

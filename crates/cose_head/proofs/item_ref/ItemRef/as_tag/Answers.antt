@@ -1,7 +1,7 @@
 use Rattle.std.proofs.Common.{ap, ◌∙◌}
 use Rattle.cose_head.specs.ItemRef.{placed}
 use Rattle.cose_head.specs.Whole.{is_one_item}
-use Rattle.cose_head.proofs.Whole.{enclosed_is_one_item}
+use Rattle.cose_head.proofs.lemmas.Placed.Whole.{enclosed_is_one_item}
 use Rattle.cose_head.proofs.item_ref.ItemRef.as_tag.Goals as goal
 
 pub invariant_of-item-clause-is_item : goal.invariant_of-item-clause-is_item

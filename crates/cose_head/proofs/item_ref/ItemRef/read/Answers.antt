@@ -1,8 +1,8 @@
 use Rattle.std.proofs.Common.{sym}
 use Rattle.std.proofs.lemmas.Result.{err_from_is_err_and}
 use Rattle.cose_head.specs.PlacedLaws.{StandsIn}
-use Rattle.cose_head.proofs.Whole.{whole_refused, whole_trails, whole_found, whole_is_one_item, refused_inside}
-use Rattle.cose_head.proofs.PlacedTrees.{at}
+use Rattle.cose_head.proofs.lemmas.Placed.Whole.{whole_refused, whole_trails, whole_found, whole_is_one_item, refused_inside}
+use Rattle.cose_head.proofs.lemmas.Placed.PlacedTrees.{at}
 use Rattle.cose_head.proofs.item_ref.ItemRef.read.Goals as goal
 
 pub returns-in_err-span-clause-exact : goal.returns-in_err-span-clause-exact

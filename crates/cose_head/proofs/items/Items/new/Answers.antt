@@ -1,4 +1,4 @@
-use Rattle.cose_head.proofs.Placed.{children_found}
+use Rattle.cose_head.proofs.lemmas.Placed.Placed.{children_found}
 use Rattle.cose_head.proofs.items.Items.new.Goals as goal
 
 pub returns : goal.returns

@@ -1,6 +1,6 @@
 use Rattle.std.proofs.Common.{ap, ◌∙◌, sym}
 use Rattle.cose_head.specs.Whole.{is_one_item}
-use Rattle.cose_head.proofs.Whole.{span_is_one_item}
+use Rattle.cose_head.proofs.lemmas.Placed.Whole.{span_is_one_item}
 use Rattle.cose_head.proofs.items.ItemsIterator.next.Goals as goal
 
 pub invariant_of-result-clause-is_item : goal.invariant_of-result-clause-is_item

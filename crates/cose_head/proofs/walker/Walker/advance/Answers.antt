@@ -2,8 +2,8 @@ use Rattle.std.proofs.Common.{◌≡◌, ◌∷◌, ◌++◌, [], List, ℕ, ref
 use Rattle.cose_head.specs.Walking.{Walk}
 use Rattle.cose_head.specs.Walker.{left_at, go_on, resume}
 use Rattle.std.proofs.lemmas.Result.{err_from_is_err_and}
-use Rattle.cose_head.proofs.WalkSteps.{go_on-half, waits-half, refused-half}
-use Rattle.cose_head.proofs.WalkerSteps.{leads_same}
+use Rattle.cose_head.proofs.lemmas.Walker.WalkSteps.{go_on-half, waits-half, refused-half}
+use Rattle.cose_head.proofs.lemmas.Walker.WalkerSteps.{leads_same}
 use Rattle.cose_head.proofs.walker.Walker.advance.Goals as goal
 
 pub returns-in_err-head-clause-leads : goal.returns-in_err-head-clause-leads

@@ -1,8 +1,8 @@
 use Rattle.std.proofs.Common.{◌≡◌, ◌-◌, length, sym, ap, ◌∙◌, arith}
 use Rattle.cose_head.specs.Walking.{ends, walk_content, finish}
 use Rattle.cose_head.specs.Walker.{left_at, resume}
-use Rattle.cose_head.proofs.WalkSteps.{walk_content-none, go_on-content, waits-content, piece_taken}
-use Rattle.cose_head.proofs.WalkerSteps.{leads_same, passed}
+use Rattle.cose_head.proofs.lemmas.Walker.WalkSteps.{walk_content-none, go_on-content, waits-content, piece_taken}
+use Rattle.cose_head.proofs.lemmas.Walker.WalkerSteps.{leads_same, passed}
 use Rattle.cose_head.proofs.walker.Walker.advance_content.Goals as goal
 
 pub returns-then-self-gt0-clause-leads : goal.returns-then-self-gt0-clause-leads

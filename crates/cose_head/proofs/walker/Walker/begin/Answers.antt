@@ -3,8 +3,8 @@ use Rattle.std.proofs.lemmas.Bool.Decides.{nat_tests}
 use Rattle.cose_head.specs.Reading.{Left, child_count}
 use Rattle.cose_head.specs.Walking.{ends, walk_all, walk_content, finish}
 use Rattle.cose_head.specs.Walker.{left_at, Passes}
-use Rattle.cose_head.proofs.WalkSteps.{head-leaf, head-content, head-content_past, head-deep, head-children_past, head-children}
-use Rattle.cose_head.proofs.WalkerSteps.{leads_same, passed}
+use Rattle.cose_head.proofs.lemmas.Walker.WalkSteps.{head-leaf, head-content, head-content_past, head-deep, head-children_past, head-children}
+use Rattle.cose_head.proofs.lemmas.Walker.WalkerSteps.{leads_same, passed}
 use Rattle.cose_head.proofs.walker.Walker.begin.Goals as goal
 
 pub returns-then-length-room-clause-leads : goal.returns-then-length-room-clause-leads

@@ -1,8 +1,8 @@
 use Rattle.std.proofs.Common.{sym, ◌∙◌, ap}
 use Rattle.cose_head.specs.Walking.{ends, finish}
 use Rattle.cose_head.specs.Walker.{left_at}
-use Rattle.cose_head.proofs.WalkerSteps.{leads_same}
-use Rattle.cose_head.proofs.Walking.{finish-parent}
+use Rattle.cose_head.proofs.lemmas.Walker.WalkerSteps.{leads_same}
+use Rattle.cose_head.proofs.lemmas.Walker.Walking.{finish-parent}
 use Rattle.cose_head.proofs.walker.Walker.begin_children.Goals as goal
 
 pub returns-clause-leads : goal.returns-clause-leads

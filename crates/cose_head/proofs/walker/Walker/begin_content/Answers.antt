@@ -1,8 +1,8 @@
 use Rattle.std.proofs.Common.{◌<◌, sym, ap, arith}
 use Rattle.cose_head.specs.Walking.{ends, finish}
 use Rattle.cose_head.specs.Walker.{left_at, resume}
-use Rattle.cose_head.proofs.WalkerSteps.{leads_same}
-use Rattle.cose_head.proofs.WalkSteps.{walk_content-none, go_on-content, waits-content}
+use Rattle.cose_head.proofs.lemmas.Walker.WalkerSteps.{leads_same}
+use Rattle.cose_head.proofs.lemmas.Walker.WalkSteps.{walk_content-none, go_on-content, waits-content}
 use Rattle.cose_head.proofs.walker.Walker.begin_content.Goals as goal
 
 pub returns-then-count-eq0-clause-leads : goal.returns-then-count-eq0-clause-leads

@@ -1,7 +1,7 @@
 use Rattle.std.proofs.Common.{arith, ◌∙◌, sym, ap}
 use Rattle.cose_head.specs.Walking.{Walk}
 use Rattle.cose_head.specs.Walker.{left_at, resume}
-use Rattle.cose_head.proofs.WalkSteps.{head-no_room, refused_head, go_on-begins, waits-begins}
+use Rattle.cose_head.proofs.lemmas.Walker.WalkSteps.{head-no_room, refused_head, go_on-begins, waits-begins}
 use Rattle.cose_head.proofs.walker.Walker.end_item.Goals as goal
 
 pub returns-clause-leads : goal.returns-clause-leads

@@ -2,8 +2,8 @@ use Rattle.std.proofs.Common.{◌≡◌, ap, refl, arith, length, true, rules}
 use Rattle.cose_head.specs.Head.{bare_head}
 use Rattle.cose_head.specs.HalfHead.{is_half}
 use Rattle.cose_head.specs.Walker.{resume}
-use Rattle.cose_head.proofs.WalkerSteps.{new_rest}
-use Rattle.cose_head.proofs.WalkSteps.{waits-begins}
+use Rattle.cose_head.proofs.lemmas.Walker.WalkerSteps.{new_rest}
+use Rattle.cose_head.proofs.lemmas.Walker.WalkSteps.{waits-begins}
 use Rattle.cose_head.proofs.walker.Walker.new.Goals as goal
 
 pub invariant_of-result : goal.invariant_of-result
@@ -21,5 +21,5 @@ returns-clause-put g c =
       taken = omega arith;
       left = omega arith;
       waits = λ some. (waits-begins g.row.D c.new-2.result.items c.new.result.items 0 c.args.room 0 refl none (λ e. omega arith), omega arith);
-      going = refl;
+      is_going = refl;
     }

@@ -1,7 +1,7 @@
 use Rattle.std.proofs.Common.{◌≡◌, ap, length, arith}
 use Rattle.cose_head.specs.Measured.{left_of}
 use Rattle.cose_head.specs.Open.{Open, open_in}
-use Rattle.cose_head.proofs.WalkerSteps.{open_so_far}
+use Rattle.cose_head.proofs.lemmas.Walker.WalkerSteps.{open_so_far}
 use Rattle.cose_head.proofs.walker.Walker.open_items.Goals as goal
 
 pub returns-in-Going-clause-open : goal.returns-in-Going-clause-open

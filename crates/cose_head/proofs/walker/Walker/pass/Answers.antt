@@ -1,6 +1,6 @@
 use Rattle.std.proofs.Common.{◌≡◌, ◌+◌, length, take, refl, arith}
 use Rattle.std.proofs.lemmas.List.{length-take-le}
-use Rattle.cose_head.proofs.WalkerSteps.{answers_after, on_ok, put_after, string_open}
+use Rattle.cose_head.proofs.lemmas.Walker.WalkerSteps.{answers_after, on_ok, put_after, string_open}
 use Rattle.cose_head.proofs.walker.Walker.pass.Goals as goal
 
 pub returns-then-count-gt0-clause-used : goal.returns-then-count-gt0-clause-used
@@ -23,7 +23,7 @@ returns-then-count-gt0-clause-answer g c = λ room put has some.
     (on_ok _ taken) (on_ok _ left))
 
 pub returns-then-count-gt0-clause-put : goal.returns-then-count-gt0-clause-put
-returns-then-count-gt0-clause-put g c = λ room put has going.
+returns-then-count-gt0-clause-put g c = λ room put has is_going.
     let now = c.args.self.now in
     let then = c.advance_content-progress.new.self in
     let piece = take c.min-count.result c.args.piece.now in
@@ -34,4 +34,4 @@ returns-then-count-gt0-clause-put g c = λ room put has going.
     let left : then.place + then.room ≡ now.place + now.room = omega (arith, now.fits, is_at.room, is_at.place) in
     put_after now then room put piece has _ (record { counts = refl; half = refl; string = refl; room = refl; place = refl }) c.advance_content-progress.result (c.advance_content-progress.ensures.leads piece count)
     (on_ok _ taken) (on_ok _ left)
-    c.step_after-self.ensures going
+    c.step_after-self.ensures is_going

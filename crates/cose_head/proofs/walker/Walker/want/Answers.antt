@@ -1,7 +1,7 @@
 use Rattle.std.proofs.Common.{◌≡◌, ap, arith}
 use Rattle.cose_head.specs.Open.{Open, open_in}
 use Rattle.cose_head.specs.Measured.{left_of}
-use Rattle.cose_head.proofs.WalkerSteps.{open_so_far, early_content, early_none}
+use Rattle.cose_head.proofs.lemmas.Walker.WalkerSteps.{open_so_far, early_content, early_none}
 use Rattle.cose_head.proofs.walker.Walker.want.Goals as goal
 
 pub returns-then-self-gt0-clause-content : goal.returns-then-self-gt0-clause-content

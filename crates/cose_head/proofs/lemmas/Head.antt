@@ -1,0 +1,5 @@
+pub mod Arguments
+pub mod BareHeads
+pub mod HalfHead
+pub mod HeadCases
+pub mod Heads

@@ -1,0 +1,4 @@
+pub mod Inside
+pub mod Placed
+pub mod PlacedTrees
+pub mod Whole

@@ -1,0 +1,9 @@
+pub mod Complete
+pub mod ItemSteps
+pub mod Measured
+pub mod ReadLaws
+pub mod ReadMoves
+pub mod ReadSteps
+pub mod Sound
+pub mod Spans
+pub mod Stable

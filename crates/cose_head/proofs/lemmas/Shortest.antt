@@ -1,0 +1,3 @@
+pub mod ShortHeads
+pub mod ShortItems
+pub mod ShortLeast

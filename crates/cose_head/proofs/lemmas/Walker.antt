@@ -1,0 +1,5 @@
+pub mod WalkSteps
+pub mod WalkedHeads
+pub mod WalkerLaws
+pub mod WalkerSteps
+pub mod Walking
