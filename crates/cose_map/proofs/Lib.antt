@@ -6,4 +6,5 @@ pub mod WorkedTables
 pub mod WorkedChoice
 pub mod WorkedMismatches
 pub mod WorkedRestrictions
+mod WorkedOkp
 mod WorkedReasons

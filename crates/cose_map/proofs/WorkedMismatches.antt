@@ -1,5 +1,5 @@
 -- Why a key doesn't fit on examples, by computing: each condition alone, and the first where several fail.
-use Rattle.std.proofs.Common.{◌≡◌, ℕ, ℤ, pos, negsuc, true, List, [], ◌∷◌, ◌++◌, Option, Some, None, refl}
+use Rattle.std.proofs.Common.{◌≡◌, ℕ, ℤ, pos, negsuc, true, List, [], ◌∷◌, Option, Some, None, refl}
 use Rattle.cose_head.specs.declared.kind.Kind.TheVariants.{Mac0, Sign1}
 use Rattle.cose_map.specs.declared.choice.mismatch.Mismatch.{Mismatch}
 use Rattle.cose_map.specs.declared.choice.mismatch.Mismatch.TheVariants.{Algorithm, KeyType, Curve, Operation, Identifier}

@@ -1,5 +1,5 @@
 -- Which keys may be used, on examples, by computing.
-use Rattle.std.proofs.Common.{◌≡◌, pos, true, false, List, [], ◌∷◌, Option, Some, None, refl}
+use Rattle.std.proofs.Common.{◌≡◌, pos, true, false, [], ◌∷◌, Option, Some, None, refl}
 use Rattle.cose_map.specs.Key.Value.{KeyValue, MaterialValue, symmetric, elliptic, sign}
 use Rattle.cose_map.specs.Label.{LabelValue, number, words}
 use Rattle.cose_map.specs.Restrictions.{RestrictionsValue, allowed_of, allows}

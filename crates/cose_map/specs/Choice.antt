@@ -1,5 +1,6 @@
 -- Which key authenticates a message, and by which algorithm (RFC 9052 section 7.1).
 pub mod Algorithm
+pub mod Further
 pub mod Mismatch
 pub mod Place
 pub mod View

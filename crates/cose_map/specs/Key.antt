@@ -5,6 +5,7 @@ pub mod Curve
 pub mod Material
 pub mod Value
 pub mod View
+pub mod Okp
 pub mod Shown
 use Rattle.std.specs.Prelude.{ℕ, ℤ, List, Option, Ok, option_map, option_and_then, filter_map}
 use Rattle.cose_head.specs.Placed.{Placed, look, integer_in, bytes_in, children_of}

@@ -2,6 +2,7 @@
 -- skipped. A single key is a set of one.
 pub mod Items
 pub mod View
+pub mod Okp
 use Rattle.std.specs.Prelude.{ℕ, List, [], ◌∷◌, length, Option, Some, None, Ok, Err, nat_lt, ◌==◌, if◌then◌else◌, filter_map}
 use Rattle.cose_head.specs.declared.reason.Reason.TheVariants.{BadKeySet}
 use Rattle.cose_head.specs.Placed.{Placed, Look, an_array, a_map, look, children_of}

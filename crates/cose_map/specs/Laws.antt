@@ -1,5 +1,6 @@
 -- The statements of the laws.
 pub mod Allowed
+pub mod Further
 pub mod Inside
 pub mod Least
 pub mod Place

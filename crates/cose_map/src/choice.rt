@@ -2,5 +2,6 @@
 
 mod algorithm;
 pub mod fitting;
+pub mod further;
 pub mod mismatch;
 pub mod query;

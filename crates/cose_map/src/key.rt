@@ -5,6 +5,7 @@ mod form;
 mod labels;
 pub mod material;
 mod members;
+pub mod okp;
 pub mod operations;
 
 use crate::key::form::KeyForm;

@@ -5,6 +5,7 @@ ghost use Rattle.cose_head.specs.ItemRef.{placed};
 ghost use Rattle.cose_map.specs.KeySet.{usable as usable_key};
 ghost use Rattle.cose_map.specs.Key.View.{key_value};
 
+mod further;
 mod items;
 
 use crate::choice::fitting::Fitting;
@@ -34,12 +35,13 @@ pub(crate) fn usable<'a>(item: &ItemRef<'a>) -> Option<Key<'a>>
 }
 
 impl<'a> KeySet<'a> {
-    ghost use Rattle.std.specs.Prelude.{◌≤◌, [], ◌∷◌, length, IfErr};
+    ghost use Rattle.std.specs.Prelude.{◌≤◌, [], ◌∷◌, length, IfErr, IfOk};
     ghost use Rattle.cose_map.specs.Choice.{chosen};
     ghost use Rattle.cose_map.specs.Choice.Place.{first_fitting, place_of};
     ghost use Rattle.cose_map.specs.Choice.View.{question, found_value};
     ghost use Rattle.cose_map.specs.KeySet.{keys_of, items_in};
     ghost use Rattle.cose_map.specs.KeySet.Items.{key_items_left};
+    ghost use Rattle.cose_map.specs.KeySet.Okp.{okp_keys, okp_keys_of};
     ghost use Rattle.cose_map.specs.KeySet.View.{keys};
     ghost use Rattle.cose_map.specs.Map.View.{seen_by};
 
@@ -50,6 +52,8 @@ impl<'a> KeySet<'a> {
     #[tactic(auto, unfolding(crate::specs::KeySet::keys_of))]
     pub fn read(bytes: &'a [u8]) -> Result<KeySet<'a>, Refusal>
         ensures exact { seen_by keys result ≡ keys_of bytes.now }
+        // Its OKP keys, of which no other call knows, are those of the items.
+        ensures okp { IfOk result (λ set. okp_keys set ≡ okp_keys_of bytes.now) }
         ensures within { IfErr result (λ refusal. refusal.place ≤ length bytes.now) }
     {
         if bytes.len() > MOST_BYTES {

@@ -1,12 +1,28 @@
 //! Labels of maps (RFC 9052 section 1.5).
 
 ghost use Rattle.std.specs.Prelude.{◌≡◌, ◌&&◌, option_map};
+ghost use Rattle.std.specs.Cmp.Lexicographic.{slice_cmp};
+ghost use Rattle.std.specs.Ordering.{nat_cmp, is_lt};
 ghost use Rattle.cose_head.specs.ItemRef.{placed};
 ghost use Rattle.cose_map.specs.Label.{label_of, same_label};
 ghost use Rattle.cose_map.specs.Label.Order as order;
 ghost use Rattle.cose_map.specs.Label.View.{label_value};
 
 use cose_head::ItemRef;
+use cose_mac::same_bytes;
+
+/// Whether the first of two texts comes before the other by their bytes. They are compared one byte after the other: a label
+/// is short, and comparing several bytes at once takes more code.
+fn comes_before(text: &[u8], other: &[u8]) -> bool
+    ensures { result ≡ is_lt (slice_cmp nat_cmp text.now other.now) }
+{
+    'bytes: for i in 0..text.len().min(other.len()) {
+        if text[i] != other[i] {
+            return text[i] < other[i];
+        }
+    }
+    text.len() < other.len()
+}
 
 /// A label of a map: an integer or a text string. Labels are equal by value, however they are encoded.
 #[derive(Clone, Copy, Debug, PartialEq, Eq)]
@@ -34,7 +50,13 @@ impl<'a> Label<'a> {
     pub fn is_same(&self, other: &Label<'_>) -> bool
         ensures { result ≡ same_label (label_value self.now) (label_value other.now) }
     {
-        *self == *other
+        match (self, other) {
+            (Label::Int(number), Label::Int(other)) => number == other,
+            (Label::Text(text), Label::Text(other)) => {
+                same_bytes(text.as_bytes(), other.as_bytes())
+            }
+            (Label::Int(_), Label::Text(_)) | (Label::Text(_), Label::Int(_)) => false,
+        }
     }
 
     /// The rank of the label among those of other lengths.
@@ -69,6 +91,9 @@ impl<'a> Label<'a> {
     {
         let rank = self.rank();
         let other_rank = other.rank();
-        rank < other_rank || (rank == other_rank && self.text() < other.text())
+        if rank != other_rank {
+            return rank < other_rank;
+        }
+        comes_before(self.text().as_bytes(), other.text().as_bytes())
     }
 }

@@ -2,7 +2,8 @@
 //! law.
 
 ghost use Rattle.cose_map.specs.Laws.Allowed.{ChosenIsAllowed, AlgorithmIsAllowed, SecretIsLongEnough};
-ghost use Rattle.cose_map.specs.Laws.Inside.{MapIsRefusedInside, ReadIsRefusedInside, BucketIsRefusedInside, KeyIsRefusedInside, FoundEndsInside, BucketEndsInside, PairIsRefusedInside};
+ghost use Rattle.cose_map.specs.Laws.Further.{FurtherIsNamed, FurtherIsSigned, FurtherTakesCurve, NoOtherOkpKeyFits, NoPlaceOfNoOkpKey, OkpKeyFits, OkpKeyIsAmong, OkpKeyIsFull, OkpKeyStandsThere, OkpKeysAreFull};
+ghost use Rattle.cose_map.specs.Laws.Inside.{MapIsRefusedInside, ReadIsRefusedInside, BucketIsRefusedInside, KeyIsRefusedInside, OkpKeyIsRefusedInside, FoundEndsInside, BucketEndsInside, PairIsRefusedInside};
 ghost use Rattle.cose_map.specs.Laws.Chosen.{ChosenIsAmong, ChosenFits, ChosenIsOfKind, ChosenIsOfType, NoOtherFits};
 ghost use Rattle.cose_map.specs.Laws.Place.{ChosenStandsThere, NoPlaceOfNone};
 ghost use Rattle.cose_map.specs.Laws.Least.{NoLeastOfNone, LeastIsAmong, NoneBeforeLeast};
@@ -20,6 +21,7 @@ pub fn refusals_stand_inside()
     ensures read { ReadIsRefusedInside }
     ensures bucket { BucketIsRefusedInside }
     ensures key { KeyIsRefusedInside }
+    ensures okp_key { OkpKeyIsRefusedInside }
     ensures found { FoundEndsInside }
     ensures pairs { BucketEndsInside }
     ensures two_buckets { PairIsRefusedInside }
@@ -113,4 +115,26 @@ pub fn points_are_full()
     ensures key { PointIsFull }
     ensures keys { PointsAreFull }
     ensures short { FullIsShort }
+{}
+
+/// The OKP key that is chosen is one of the keys passed, and fits: its curve is one that the algorithm takes. No other of the
+/// keys fits. The algorithm is the one that the message names, or the key where the message names none, and the message is
+/// signed. The key stands at the place that [`KeySet::place_further`](crate::KeySet::place_further) gives, and there is such a
+/// place exactly where one is chosen.
+pub fn okp_key_fits()
+    ensures among { OkpKeyIsAmong }
+    ensures fits { OkpKeyFits }
+    ensures named { FurtherIsNamed }
+    ensures curve { FurtherTakesCurve }
+    ensures signed { FurtherIsSigned }
+    ensures only { NoOtherOkpKeyFits }
+    ensures there { OkpKeyStandsThere }
+    ensures none { NoPlaceOfNoOkpKey }
+{}
+
+/// The public key of an OKP key that was read, alone or in a set, is as long as its curve says (RFC 8032 sections 5.1.5 and
+/// 5.2.5).
+pub fn okp_keys_are_full()
+    ensures key { OkpKeyIsFull }
+    ensures keys { OkpKeysAreFull }
 {}

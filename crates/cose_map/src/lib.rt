@@ -41,6 +41,9 @@
 //! A usable key is a secret, or a point on P-256, P-384 or P-521 ([`Material`]). Whether a point is on its curve isn't
 //! checked: no curve arithmetic is included.
 //!
+//! For a signature that the caller verifies, EdDSA, [`KeySet::find_further`] finds the [`OkpKey`] and the [`FurtherAlg`]; every
+//! other call skips such keys, and knows no such algorithm.
+//!
 //! The labels that RFC 9052 section 3.1 defines are in [`header`]. [`read_map`] and [`check_map`] read any map with a
 //! table of value forms, a [`Form`], into its [`Pairs`]. [`KeySet::of_key`] is the set of one key that is within
 //! another item.
@@ -65,9 +68,10 @@ pub use bucket::both::check_pair;
 pub use bucket::{Bucket, header};
 pub use choice::mismatch::Mismatch;
 pub use choice::query::Query;
-pub use cose_head::{Head, ItemRef, Items, Kind, Reason, Refusal};
+pub use cose_head::{FurtherAlg, Head, ItemRef, Items, Kind, OkpCurve, Reason, Refusal};
 pub use key::Key;
 pub use key::material::{Material, Y};
+pub use key::okp::OkpKey;
 pub use key::operations::Ops;
 pub use key_set::KeySet;
 pub use key_table::KeyTable;

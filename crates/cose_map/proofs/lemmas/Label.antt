@@ -1,4 +1,5 @@
 -- The label of an item, by what the item is.
+pub mod Bytes
 pub mod Order
 use Rattle.std.proofs.Common.{◌≡◌, ℕ, ℤ, Bool, true, false, List, Option, Some, None, refl}
 use Rattle.std.specs.Prelude.{if◌then◌else◌}

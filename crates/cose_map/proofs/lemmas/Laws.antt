@@ -6,3 +6,4 @@ pub mod Reasons
 pub mod Tree
 pub mod Chosen
 pub mod Place
+pub mod Further

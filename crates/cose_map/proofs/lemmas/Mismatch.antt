@@ -1,11 +1,10 @@
 -- The first condition that a key fails: there is none exactly where the key fits.
-use Rattle.std.proofs.Common.{◌≡◌, ◌∙◌, ℤ, Bool, true, false, List, [], ◌∷◌, ◌++◌, Option, Some, None, refl, ap, sym}
-use Rattle.std.specs.Prelude.{◌&&◌, ◌==◌, is_some, if◌then◌else◌, option_and_then}
+use Rattle.std.proofs.Common.{◌≡◌, ◌∙◌, ℤ, Bool, true, false, ◌++◌, Option, Some, None, refl, ap, sym}
+use Rattle.std.specs.Prelude.{◌&&◌, is_some, if◌then◌else◌}
 use Rattle.std.specs.Option.{is_none}
 use Rattle.cose_head.specs.declared.algorithm.Alg.{Alg}
 use Rattle.cose_head.specs.declared.algorithm.KeyType.{KeyType}
 use Rattle.cose_head.specs.declared.algorithm.KeyType.TheVariants.{Symmetric, Elliptic}
-use Rattle.cose_head.specs.declared.kind.Kind.{Kind}
 use Rattle.cose_head.specs.Algorithm.{key_type_of}
 use Rattle.cose_map.specs.declared.choice.mismatch.Mismatch.{Mismatch}
 use Rattle.cose_map.specs.declared.choice.mismatch.Mismatch.TheVariants as conditions

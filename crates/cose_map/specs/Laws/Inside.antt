@@ -5,6 +5,7 @@ use Rattle.cose_head.specs.Placed.{Placed}
 use Rattle.cose_head.specs.PlacedLaws.{end_of, EndsBy}
 use Rattle.cose_map.specs.Bucket.{bucket_of}
 use Rattle.cose_map.specs.Key.{key_of}
+use Rattle.cose_map.specs.Key.Okp.{okp_of}
 use Rattle.cose_map.specs.Label.{LabelValue}
 use Rattle.cose_map.specs.Map.Read.{Read, check_map, read_map}
 use Rattle.cose_map.specs.Map.Form.{Table}
@@ -26,6 +27,9 @@ BucketIsRefusedInside = (depth : ℕ) (p : Placed) → RefusedBy (end_of p) (buc
 
 abbrev pub KeyIsRefusedInside : Type 0
 KeyIsRefusedInside = (p : Placed) → RefusedBy (end_of p) (key_of p)
+
+abbrev pub OkpKeyIsRefusedInside : Type 0
+OkpKeyIsRefusedInside = (p : Placed) → RefusedBy (end_of p) (okp_of p)
 
 -- The label and the value of a pair end by a place, and those of several pairs do.
 abbrev pub PairEndsBy : ℕ → Pair → Type 0

@@ -1,6 +1,6 @@
 -- A set of labels: the numbers that most labels have, in increasing order, and the labels that have none.
 pub mod View
-use Rattle.std.specs.Prelude.{◌≡◌, ℕ, ℤ, pos, negsuc, suc, ◌+◌, ◌*◌, ◌^◌, ◌<◌, ◌≤◌, Bool, true, false, not, List, [], ◌∷◌, ◌++◌, length, take, drop, Option, Some, None, option_map, Result, nat_lt, ◌==◌, ◌&&◌, if◌then◌else◌, MatchOption, MatchResult, slice_index}
+use Rattle.std.specs.Prelude.{◌≡◌, ℕ, ℤ, pos, negsuc, ◌+◌, ◌*◌, ◌^◌, ◌<◌, ◌≤◌, Bool, true, false, not, List, [], ◌∷◌, ◌++◌, length, Option, Some, None, option_map, Result, nat_lt, ◌==◌, ◌&&◌, if◌then◌else◌, MatchOption, MatchResult, slice_index}
 use Rattle.std.specs.List.{list_any}
 use Rattle.cose_map.specs.Label.{LabelValue, number, words, same_label}
 

@@ -113,17 +113,26 @@ impl<'q> Query<'q> {
         }
     }
 
+    /// The algorithm that a key is used with, which names this one as its own, if it names one.
+    pub(crate) fn algorithm_by(&self, own: Option<Label>) -> Option<i128>
+        ensures { let q = question self.now in
+            result ≡ option_and_then integer_in_label
+            (algorithm_used q.protected_alg q.unprotected_alg (option_map label_value own.entry)) }
+    {
+        match (self.protected_alg, self.unprotected_alg) {
+            (Some(protected), _) => number_of(protected),
+            (None, Some(unprotected)) => confirmed(own, unprotected),
+            (None, None) => number_of(own?),
+        }
+    }
+
     /// The algorithm that the key is used with.
     pub(crate) fn algorithm_for(&self, key: &Key) -> Option<i128>
         ensures { let q = question self.now in
             result ≡ option_and_then integer_in_label
             (algorithm_used q.protected_alg q.unprotected_alg (key_value key.now).alg) }
     {
-        match (self.protected_alg, self.unprotected_alg) {
-            (Some(protected), _) => number_of(protected),
-            (None, Some(unprotected)) => confirmed(key.alg, unprotected),
-            (None, None) => number_of(key.alg?),
-        }
+        self.algorithm_by(key.alg)
     }
 
     /// Whether the key may be used with the algorithm.

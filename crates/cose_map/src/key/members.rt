@@ -42,7 +42,7 @@ impl<'a> Members<'a> {
     }
 
     /// The value of a label that the key must have.
-    fn wanted(&self, label: &Label<'_>) -> Result<ItemRef<'a>, Refusal>
+    pub(crate) fn wanted(&self, label: &Label<'_>) -> Result<ItemRef<'a>, Refusal>
         ensures { seen_by placed result ≡ member (placed self.now.key) (pairs_left self.now.pairs)
             (label_value label.now) }
     {

@@ -1,7 +1,7 @@
 //! A map of labels and values, read with a table that says which form each label's value has
 //! (RFC 9052 sections 3 and 7, RFC 8392 section 3).
 
-ghost use Rattle.std.specs.Prelude.{◌≡◌, ℕ, ◌+◌, ◌<◌, ◌≤◌, ◌^◌, not, true, [], ◌∷◌, length, MatchOption, IfErr};
+ghost use Rattle.std.specs.Prelude.{◌≡◌, ℕ, ◌+◌, ◌<◌, ◌≤◌, ◌^◌, not, true, [], ◌∷◌, length, MatchOption, IfErr, IfOk, IfSome, Ok, Err};
 ghost use Rattle.cose_head.specs.ItemRef.{placed};
 ghost use Rattle.cose_head.specs.Items.{items_left};
 ghost use Rattle.cose_map.specs.Label.{label_of};
@@ -90,23 +90,39 @@ fn check_in_any_order<'a, F: Form>(form: &F, items: Items<'a>) -> Result<Pairs<'
     Ok(Pairs { items })
 }
 
-/// The pairs of a map from its children, each with a new label and a value of its form. Labels in increasing order are
-/// compared with the one before alone.
-fn check_items<'a, F: Form>(form: &F, items: Items<'a>) -> Result<Pairs<'a>, Refusal>
-    ensures { seen_by pairs_left result
-        ≡ check_pairs (F.table form.now) [] (items_left items.entry) }
+/// The pairs of a map from its children, each with a new label and a value of its form, where the labels are in increasing
+/// order: each is compared with the one before alone. `None` at the first label that isn't. Not inlined, so that what it takes
+/// of the stack is free again while labels in any order are read.
+#[inline(never)]
+fn check_rising<'a, F: Form>(form: &F, items: Items<'a>) -> Result<Option<Pairs<'a>>, Refusal>
+    ensures refused { IfErr result (λ refusal.
+        Err refusal ≡ check_pairs (F.table form.now) [] (items_left items.entry)) }
+    ensures found { IfOk result (λ found. IfSome found (λ pairs.
+        Ok (pairs_left pairs) ≡ check_pairs (F.table form.now) [] (items_left items.entry))) }
 {
     let mut earlier = Earlier::none(Pairs { items });
     let mut rest = items;
     'pairs: while let Some((label, value)) = next_two(&mut rest) {
         let name = label_at(&label)?;
         if !passes(earlier.greatest, &name) {
-            return check_in_any_order(form, items);
+            return Ok(None);
         }
         let checked = check_new(form, name, true, &label, &value)?;
         earlier.push_greatest(checked);
     }
-    Ok(earlier.pairs)
+    Ok(Some(earlier.pairs))
+}
+
+/// The pairs of a map from its children, each with a new label and a value of its form. Labels in increasing order are
+/// compared with the one before alone.
+fn check_items<'a, F: Form>(form: &F, items: Items<'a>) -> Result<Pairs<'a>, Refusal>
+    ensures { seen_by pairs_left result
+        ≡ check_pairs (F.table form.now) [] (items_left items.entry) }
+{
+    match check_rising(form, items)? {
+        Some(pairs) => Ok(pairs),
+        None => check_in_any_order(form, items),
+    }
 }
 
 /// The pairs of a map from its item: labels, none twice, and values of their forms.

@@ -1,4 +1,4 @@
-use Rattle.cose_map.proofs.lemmas.Laws.Inside.{map_refused_inside, read_refused_inside, bucket_refused_inside, key_refused_inside, found_ends_inside, bucket_ends_inside, pair_refused_inside}
+use Rattle.cose_map.proofs.lemmas.Laws.Inside.{map_refused_inside, read_refused_inside, bucket_refused_inside, key_refused_inside, okp_refused_inside, found_ends_inside, bucket_ends_inside, pair_refused_inside}
 use Rattle.cose_map.proofs.laws.refusals_stand_inside.Goals as goal
 
 pub returns-clause-map : goal.returns-clause-map
@@ -12,6 +12,9 @@ returns-clause-bucket c = bucket_refused_inside c.whole_is_one_item.ensures.tree
 
 pub returns-clause-key : goal.returns-clause-key
 returns-clause-key c = key_refused_inside c.whole_is_one_item.ensures.tree c.whole_is_one_item.ensures.inside c.children_are_of_tree.ensures.inside
+
+pub returns-clause-okp_key : goal.returns-clause-okp_key
+returns-clause-okp_key c = okp_refused_inside c.whole_is_one_item.ensures.tree c.whole_is_one_item.ensures.inside c.children_are_of_tree.ensures.inside
 
 pub returns-clause-found : goal.returns-clause-found
 returns-clause-found c = found_ends_inside c.whole_is_one_item.ensures.tree c.whole_is_one_item.ensures.inside c.children_are_of_tree.ensures.inside

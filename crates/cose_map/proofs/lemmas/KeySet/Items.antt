@@ -8,7 +8,6 @@ use Rattle.cose_head.specs.declared.item.Span.{Span}
 use Rattle.cose_head.specs.declared.refusal.Refusal.{Refusal}
 use Rattle.cose_head.specs.Placed.{Placed, look, look_with, head_of_item, children_of, children_with, items_from, first_of, span_at}
 use Rattle.cose_map.specs.KeySet.{items_in, items_like}
-use Rattle.cose_map.specs.Key.Value.{KeyValue}
 
 like_array : (p : Placed) (h : Head) (rest : List ℕ) → h.major ≡ 4 → items_like p (look_with h rest) ≡ children_of p
 like_array p h rest e = rw e refl
@@ -57,6 +56,6 @@ pub length-filter_map : {A B : Type 0} (f : A → Option B) (xs : List A) → le
 length-filter_map f [] = omega arith
 length-filter_map f (x ∷ xs) = usable_more (f x) f xs (length xs) (length-filter_map f xs)
 
-pub none_counted : (usable : Placed → Option KeyValue) (xs ys zs : List Placed) → ys ≡ xs → xs ≡ zs → length xs < 2 ^ 64 →
+pub none_counted : {B : Type 0} (usable : Placed → Option B) (xs ys zs : List Placed) → ys ≡ xs → xs ≡ zs → length xs < 2 ^ 64 →
     (0 + length (filter_map usable ys) ≡ length (filter_map usable zs)) × (length (filter_map usable zs) < 2 ^ 64)
 none_counted usable xs ys zs e d few = rw (e, ← d) (zero-add _, omega (arith, length-filter_map usable xs, few))

@@ -21,7 +21,7 @@ module _ {A B : Type 0} (find : A → Option B) where
   found_first Q x xs y None e only later here = later only (λ a among f. here a (Contains-append_right (x ∷ []) xs a among) f)
   found_first Q x xs y (Some z) e only later here = let same : z ≡ y = cc in here x (0, omega arith, refl) (e ∙ ap Some same)
 
-  found_at : (Q : Type 0) (xs : List A) (y : B) → filter_map find xs ≡ y ∷ [] → ((a : A) → Contains xs a → find a ≡ Some y → Q) → Q
+  pub found_at : (Q : Type 0) (xs : List A) (y : B) → filter_map find xs ≡ y ∷ [] → ((a : A) → Contains xs a → find a ≡ Some y → Q) → Q
   found_at Q [] y only here = cc
   found_at Q (x ∷ xs) y only here = found_first Q x xs y (find x) refl only (found_at Q xs y) here
 
@@ -52,7 +52,7 @@ module _ {A B : Type 0} (find : A → Option B) where
   before_one x before after key y z e (Some w) f only others =
       let rest : filter_map find (before ++ key ∷ after) ≡ [] = cc in absurd (some_found before after key y e rest)
 
-  none_besides : (before after : List A) (key : A) (y z : B) → find key ≡ Some y → filter_map find (before ++ key ∷ after) ≡ z ∷ [] →
+  pub none_besides : (before after : List A) (key : A) (y z : B) → find key ≡ Some y → filter_map find (before ++ key ∷ after) ≡ z ∷ [] →
       AllByRecursion (λ a. find a ≡ None) (before ++ after)
   none_besides [] after key y z e only = none_found after (after_one key after y z e only)
   none_besides (x ∷ before) after key y z e only = before_one x before after key y z e (find x) refl only (none_besides before after key y z e)

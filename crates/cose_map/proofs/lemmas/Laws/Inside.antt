@@ -4,9 +4,11 @@ use Rattle.std.specs.Prelude.{⊤, Result, IfErr, ℤ, pos, ◌==◌, IfSome, op
 use Rattle.std.specs.List.{AllByRecursion}
 use Rattle.std.specs.Ordering.{int_eq}
 use Rattle.std.proofs.lemmas.Bool.{cond_both}
+use Rattle.cose_head.specs.declared.further.OkpCurve.{OkpCurve}
 use Rattle.cose_head.specs.declared.reason.Reason.{Reason}
 use Rattle.cose_head.specs.declared.reason.Reason.TheVariants.{NotMap, BadValue, UnknownKey}
 use Rattle.cose_head.specs.declared.refusal.Refusal.{Refusal}
+use Rattle.cose_head.specs.Further.{okp_curve_numbered, public_key_length_of}
 use Rattle.cose_head.specs.Placed.{Placed, look, is_a_map, integer_in, bytes_in, is_a_text, truth_in, children_of}
 use Rattle.cose_head.specs.PlacedLaws.{end_of, EndsBy, StandsIn, WholeIsItem, WholeIsRefusedInside, ChildrenEndInside}
 use Rattle.cose_head.specs.Whole.{whole}
@@ -18,6 +20,7 @@ use Rattle.cose_map.specs.Map.Pairs.{value_of, Pair, is_named, pair_of, has_labe
 use Rattle.cose_map.specs.Bucket.Header.{crit}
 use Rattle.cose_map.specs.Laws.Inside.{RefusedBy, PairEndsBy, PairsEndBy}
 use Rattle.cose_map.specs.Key.{key_of}
+use Rattle.cose_map.specs.Key.Okp.{usable_okp_curve, okp_curve_in, octet_key_pair, okp_in, okp_by, okp_of}
 use Rattle.cose_map.specs.Key.Form.{key_table}
 use Rattle.cose_map.specs.Key.Labels.{kty, k, crv, x, y, d}
 use Rattle.cose_map.specs.Label.{LabelValue, label_of}
@@ -168,6 +171,34 @@ module _ (end : ℕ) where
     material_by = then_by end (EndsBy end) (λ material. ⊤) (member key pairs kty) _ (member_by kty)
         (λ value s. typed_by (integer_in (look value)))
 
+    usable_okp_by : (found : Option OkpCurve) → AnyBy end (usable_okp_curve key found)
+    usable_okp_by None = omega arith
+    usable_okp_by (Some curve) = tt
+
+    okp_curve_by : (value : Placed) (number : Option ℤ) → EndsBy end value → AnyBy end (okp_curve_in key value number)
+    okp_curve_by value (Some z) s = usable_okp_by (okp_curve_numbered z)
+    okp_curve_by value None s = cond_both (is_a_text (look value)) (refuse UnknownKey key) (refuse BadValue value) (AnyBy end) (λ e. omega arith) (λ e. omega arith)
+
+    octet_key_pair_by : AnyBy end (octet_key_pair key pairs)
+    octet_key_pair_by =
+        then_by end (EndsBy end) (λ read. ⊤) (member key pairs crv) _ (member_by crv)
+        (λ curve_value at_curve. then_by end (λ curve. ⊤) (λ read. ⊤) (okp_curve_in key curve_value (integer_in (look curve_value))) _
+        (okp_curve_by curve_value (integer_in (look curve_value)) at_curve)
+        (λ curve c. then_by end (EndsBy end) (λ read. ⊤) (member key pairs x) _ (member_by x)
+        (λ x_value at_x. then_by end (λ bytes. ⊤) (λ read. ⊤) (coordinate_in (public_key_length_of curve) x_value (bytes_in (look x_value))) _
+        (coordinate_by (public_key_length_of curve) x_value (bytes_in (look x_value)) at_x)
+        (λ x_bytes b. then_by end (λ unused. ⊤) (λ read. ⊤) (private_part (value_of d pairs)) _
+        (private_by (value_of d pairs) (value_of_by d pairs inside)) (λ unused u. tt)))))
+
+    okp_typed_by : (number : Option ℤ) → AnyBy end (okp_in key pairs number)
+    okp_typed_by None = omega arith
+    okp_typed_by (Some z) = cond_both (int_eq z (pos 1)) (octet_key_pair key pairs) (refuse UnknownKey key) (AnyBy end) (λ e. octet_key_pair_by) (λ e. omega arith)
+
+    members_by : AnyBy end (okp_by key pairs)
+    unfolding okp_by
+    members_by = then_by end (EndsBy end) (λ read. ⊤) (member key pairs kty) _ (member_by kty)
+        (λ value s. okp_typed_by (integer_in (look value)))
+
 -- a refusal in a view of the result is that of the code
 pub seen_inside : {X Y : Type 0} (view : X → Y) (result : Result X Refusal) (end : ℕ) (answer : Read Y) → seen_by view result ≡ answer → RefusedBy end answer →
     IfErr result (λ refusal. refusal.place ≤ end)
@@ -200,6 +231,11 @@ module _ (wholes : WholeIsItem) (inside : WholeIsRefusedInside) (children : Chil
       (λ pairs inside. then_by (end_of p) (λ material. ⊤) (λ key. ⊤) (material_of p pairs) _
       (material_by (end_of p) p (omega arith) pairs inside) (λ material m. tt))
 
+  okp_inside : (p : Placed) → AnyBy (end_of p) (okp_of p)
+  unfolding okp_of
+  okp_inside p = then_by (end_of p) (PairsEndBy (end_of p)) (λ key. ⊤) (read_map key_table 8 p) _ (read_inside key_table 8 p)
+      (λ pairs inside. members_by (end_of p) p (omega arith) pairs inside)
+
   crit_inside : (end : ℕ) (value : Option Placed) → IfSome value (EndsBy end) → IfSome (option_map children_of value) (AllByRecursion (EndsBy end))
   crit_inside end None s = tt
   crit_inside end (Some value) s = all_weaker (EndsBy (end_of value)) (EndsBy end) (λ child inside. omega arith) (children_of value) (children value)
@@ -219,6 +255,9 @@ module _ (wholes : WholeIsItem) (inside : WholeIsRefusedInside) (children : Chil
 
   pub key_refused_inside : (p : Placed) → RefusedBy (end_of p) (key_of p)
   key_refused_inside p = refused_by (end_of p) (λ key. ⊤) (key_of p) (key_inside p)
+
+  pub okp_refused_inside : (p : Placed) → RefusedBy (end_of p) (okp_of p)
+  okp_refused_inside p = refused_by (end_of p) (λ key. ⊤) (okp_of p) (okp_inside p)
 
   pub bucket_ends_inside : (depth : ℕ) (p : Placed) (pairs : List Pair) → bucket_of depth p ≡ Ok pairs → PairsEndBy (end_of p) pairs
   bucket_ends_inside depth p pairs e = rw e at (bucket_inside depth p)

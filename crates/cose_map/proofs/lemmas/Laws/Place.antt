@@ -10,12 +10,12 @@ use Rattle.cose_map.proofs.lemmas.Laws.Chosen.{found_fits, only_fitting}
 
 -- where one thing is found in a list, its element is the first at which anything is found
 module _ {A B : Type 0} (find : A → Option B) where
-  record Placed (from : ℕ) (xs : List A) (y : B) : Type 0 where
-    at : ℕ
-    element : A
-    first : position_from (λ a. is_some (find a)) from xs ≡ Some (from + at)
-    there : slice_get xs at ≡ Some element
-    found : find element ≡ Some y
+  pub record Placed (from : ℕ) (xs : List A) (y : B) : Type 0 where
+    pub at : ℕ
+    pub element : A
+    pub first : position_from (λ a. is_some (find a)) from xs ≡ Some (from + at)
+    pub there : slice_get xs at ≡ Some element
+    pub found : find element ≡ Some y
 
   placed_first : (from : ℕ) (x : A) (xs : List A) (y : B) (found : Option B) → find x ≡ found → cons_option found (filter_map find xs) ≡ y ∷ [] →
       (filter_map find xs ≡ y ∷ [] → Placed (from + 1) xs y) → Placed from (x ∷ xs) y
@@ -26,7 +26,7 @@ module _ {A B : Type 0} (find : A → Option B) where
       let same : z ≡ y = cc in
       record { at = 0; element = x; first = rw e (ap Some (omega arith)); there = refl; found = e ∙ ap Some same }
 
-  placed : (from : ℕ) (xs : List A) (y : B) → filter_map find xs ≡ y ∷ [] → Placed from xs y
+  pub placed : (from : ℕ) (xs : List A) (y : B) → filter_map find xs ≡ y ∷ [] → Placed from xs y
   placed from [] y only = cc
   placed from (x ∷ xs) y only = placed_first from x xs y (find x) refl only (placed (from + 1) xs y)
 

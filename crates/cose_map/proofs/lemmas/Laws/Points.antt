@@ -1,5 +1,5 @@
 -- The coordinates of a key's point have the full length of its curve.
-use Rattle.std.proofs.Common.{◌≡◌, ◌∙◌, ◌≤◌, ℕ, ℤ, pos, Bool, true, false, List, [], ◌∷◌, length, Option, Some, None, Result, Ok, Err, refl, sym, ap, subst, arith}
+use Rattle.std.proofs.Common.{◌≡◌, ◌∙◌, ◌≤◌, ℕ, ℤ, pos, Bool, true, false, List, [], ◌∷◌, length, Option, Some, None, Ok, Err, refl, sym, ap, subst, arith}
 use Rattle.std.specs.Prelude.{nat_eq, nat_lt, cond, filter_map}
 use Rattle.std.specs.List.{AllByRecursion, cons_option}
 use Rattle.std.specs.Ordering.{int_eq}
@@ -20,7 +20,7 @@ use Rattle.cose_map.specs.Map.Pairs.{Pair, value_of}
 use Rattle.cose_map.specs.Map.Read.{Read, ◌>>=◌, read_map, refuse}
 
 -- What was read was read by both parts.
-read_by : {A B : Type 0} (first : Read A) (next : A → Read B) (found : B) → (first >>= next) ≡ Ok found → (a : A) × (first ≡ Ok a) × (next a ≡ Ok found)
+pub read_by : {A B : Type 0} (first : Read A) (next : A → Read B) (found : B) → (first >>= next) ≡ Ok found → (a : A) × (first ≡ Ok a) × (next a ≡ Ok found)
 read_by (Ok a) next found e = (a, refl, e)
 read_by (Err refusal) next found e = absurd cc
 
@@ -28,7 +28,7 @@ held_by : {A : Type 0} → A → Read A → A
 held_by other (Ok a) = a
 held_by other (Err refusal) = other
 
-same_value : {A : Type 0} {a b : A} → (◌≡◌ {A = Read A} (Ok a) (Ok b)) → a ≡ b
+pub same_value : {A : Type 0} {a b : A} → (◌≡◌ {A = Read A} (Ok a) (Ok b)) → a ≡ b
 unfolding held_by
 same_value {a = a} e = ap (held_by a) e
 
@@ -41,7 +41,7 @@ full_length size value content bytes e = go (nat_eq (length content) size) refl 
         ap length (sym same) ∙ eqb-true (length content) size is
     go false is found = absurd cc
 
-full_x : (size : ℕ) (value : Placed) (content : Option (List ℕ)) (bytes : List ℕ) → coordinate_in size value content ≡ Ok bytes → length bytes ≡ size
+pub full_x : (size : ℕ) (value : Placed) (content : Option (List ℕ)) (bytes : List ℕ) → coordinate_in size value content ≡ Ok bytes → length bytes ≡ size
 full_x size value None bytes e = absurd cc
 full_x size value (Some content) bytes e = full_length size value content bytes e
 

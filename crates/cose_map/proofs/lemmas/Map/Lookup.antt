@@ -54,10 +54,3 @@ more_names name next count all others e =
 
 pub one_further_name : (count : ℕ) (all : List LabelValue) (next : LabelValue) (others : List LabelValue) → drop count all ≡ next ∷ others → drop (count + 1) all ≡ others
 one_further_name count all next others e = ap (λ n. drop n all) (add-one count) ∙ one_less count all next others e
-
-pub some_left : (count : ℕ) → (count ≡ 0 → ⊥) → 0 < count
-some_left zero other = absurd (other refl)
-some_left (suc count) other = omega arith
-
-pub no_cons : {A : Type 0} (x : A) (xs : List A) → ◌≡◌ {A = List A} (x ∷ xs) [] → ⊥
-no_cons x xs e = cc

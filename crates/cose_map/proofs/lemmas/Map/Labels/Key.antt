@@ -120,12 +120,6 @@ apart_by_key a b k p q = not_same (same_label b a) (λ same. other (sym q ∙ ap
     other : ◌≡◌ {A = Option ℕ} None (Some k) → ⊥
     other e = cc
 
-apart_by_none : (a b : LabelValue) (k : ℕ) → key_of a ≡ None → key_of b ≡ Some k → same_label b a ≡ false
-apart_by_none a b k p q = not_same (same_label b a) (λ same. other (sym p ∙ sym (ap key_of (is_same b a same)) ∙ q))
-  where
-    other : ◌≡◌ {A = Option ℕ} None (Some k) → ⊥
-    other e = cc
-
 kept : (b : Bool) → b ≡ (b && not false)
 kept true = refl
 kept false = refl
@@ -146,22 +140,6 @@ key_removed name k keys new others is less other = at (key_of other) refl
     at : (o : Option ℕ) → key_of other ≡ o → is_held o other new others ≡ (is_held o other keys others && not (same_label other name))
     at None e = rw (apart_by_key name other k is e) (kept (is_among other others))
     at (Some l) e = less l ∙ ap (λ b. is_in l keys && not b) (same_by_key other name l k e is)
-
-pub other_added : (name : LabelValue) (keys : List ℕ) (others new : List LabelValue) → key_of name ≡ None → ((other : LabelValue) → is_among other new ≡ (same_label other name || is_among other others)) →
-    (other : LabelValue) → is_held (key_of other) other keys new ≡ (same_label other name || is_held (key_of other) other keys others)
-other_added name keys others new none more other = at (key_of other) refl
-  where
-    at : (o : Option ℕ) → key_of other ≡ o → is_held o other keys new ≡ (same_label other name || is_held o other keys others)
-    at None e = more other
-    at (Some l) e = rw (apart_by_none name other l none e) refl
-
-pub other_removed : (name : LabelValue) (keys : List ℕ) (others new : List LabelValue) → key_of name ≡ None → ((other : LabelValue) → is_among other new ≡ (is_among other others && not (same_label other name))) →
-    (other : LabelValue) → is_held (key_of other) other keys new ≡ (is_held (key_of other) other keys others && not (same_label other name))
-other_removed name keys others new none less other = at (key_of other) refl
-  where
-    at : (o : Option ℕ) → key_of other ≡ o → is_held o other keys new ≡ (is_held o other keys others && not (same_label other name))
-    at None e = less other
-    at (Some l) e = rw (apart_by_none name other l none e) (kept (is_in l keys))
 
 -- a number that is too large for one byte more
 pub too_large : (n i : ℕ) (text : List ℕ) → i < length text → nat_lt n (2 ^ 104) ≡ false → None ≡ number_after n (drop i text)

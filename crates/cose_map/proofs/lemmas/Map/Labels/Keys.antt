@@ -155,14 +155,7 @@ removed key other (first ∷ keys) (suc i) up l e =
     apart true false c f = refl
     apart false b c f = refl
 
--- a number that is there already, and one that isn't there
-absorbed : (a b : Bool) (same : a ≡ true → b ≡ true) → b ≡ (a || b)
-absorbed true b f = f refl
-absorbed false b f = refl
-
-pub already_in : (key : ℕ) (keys : List ℕ) → is_in key keys ≡ true → (other : ℕ) → is_in other keys ≡ ((other == key) || is_in other keys)
-already_in key keys is other = absorbed (other == key) (is_in other keys) (λ same. let equal : other ≡ key = grind (arith, nat_tests) in rw equal is)
-
+-- a number that isn't there
 none_lost : (a b : Bool) → (a ≡ true → b ≡ false) → b ≡ (b && not a)
 none_lost true b f = rw (f refl) refl
 none_lost false true f = refl

@@ -32,9 +32,6 @@ pub place_is_there : (name : LabelValue) (names : List LabelValue) (place : Opti
 place_is_there name names None p = sym p
 place_is_there name names (Some i) (before, found, after, is, counted, same) = rw is (sym (first_in name found before after same))
 
-pub one_before : (name next : LabelValue) (names : List LabelValue) (i : ℕ) → same_label name next ≡ false → IsFirst name names (Some i) → IsFirst name (next ∷ names) (Some (suc i))
-one_before name next names i other (before, found, after, is, counted, same) = (next ∷ before, found, after, ap (λ l. next ∷ l) is, ap suc counted, same)
-
 -- one more label
 pub added : (name other : LabelValue) (names : List LabelValue) → is_among other (names ++ name ∷ []) ≡ (same_label other name || is_among other names)
 added name other [] = refl
@@ -45,11 +42,6 @@ added name other (next ∷ names) = rw (added name other names) (swap (same_labe
     swap true false c = refl
     swap false true c = refl
     swap false false c = refl
-
-neither : (a b : Bool) → not (a || b) ≡ true → (a ≡ false) × (b ≡ false)
-neither true b e = cc
-neither false true e = cc
-neither false false e = (refl, refl)
 
 symmetric : (a b : LabelValue) → same_label a b ≡ false → same_label b a ≡ false
 symmetric a b e = not_same (same_label b a) (λ same. true_false (same_label a b) (in_turn a b (sym (is_same b a same))) e)
@@ -145,22 +137,6 @@ cut_map f (x ∷ xs) (suc i) = ap (λ l. f x ∷ l) (cut_map f xs i)
 pub map_more : {A B : Type 0} (f : A → B) (xs : List A) (x : A) → map f (xs ++ x ∷ []) ≡ map f xs ++ f x ∷ []
 map_more f [] x = refl
 map_more f (y ∷ xs) x = ap (λ l. f y ∷ l) (map_more f xs x)
-
--- a label that is there already, and one that isn't there
-pub already_among : (name : LabelValue) (names : List LabelValue) → is_among name names ≡ true → (other : LabelValue) → is_among other names ≡ (same_label other name || is_among other names)
-already_among name names is other = at (same_label other name) (is_among other names) (λ same. rw (is_same other name same) is)
-  where
-    at : (a b : Bool) → (a ≡ true → b ≡ true) → b ≡ (a || b)
-    at true b f = f refl
-    at false b f = refl
-
-pub not_among : (name : LabelValue) (names : List LabelValue) → is_among name names ≡ false → (other : LabelValue) → is_among other names ≡ (is_among other names && not (same_label other name))
-not_among name names none other = at (same_label other name) (is_among other names) (λ same. rw (is_same other name same) none)
-  where
-    at : (a b : Bool) → (a ≡ true → b ≡ false) → b ≡ (b && not a)
-    at true b f = rw (f refl) refl
-    at false true f = refl
-    at false false f = refl
 
 -- the place of an element that is the label
 pub found_at : {A : Type 0} (view : A → LabelValue) (name : LabelValue) (xs : List A) (place index : ℕ) (d : A) → place ≡ index → index < length xs → same_label name (view (slice_index_or xs index d)) ≡ true → IsFirst name (map view xs) (Some place)

@@ -4,7 +4,7 @@ use Rattle.cose_map.specs.Map.Earlier.{earlier_pairs}
 use Rattle.cose_map.specs.Map.Pairs.{pairs_of}
 use Rattle.cose_map.specs.Map.Read.{check_pairs}
 use Rattle.cose_map.specs.Map.View.{pairs_left}
-use Rattle.cose_map.proofs.map.read.check_items.Given as goal
+use Rattle.cose_map.proofs.map.read.check_rising.Given as goal
 
 -- the pairs before this one are the first of all, and the others are left
 abbrev pub invariant-pairs : goal.invariant-pairs

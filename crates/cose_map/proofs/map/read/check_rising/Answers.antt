@@ -7,18 +7,15 @@ use Rattle.cose_map.specs.Label.View.{label_value}
 use Rattle.cose_map.specs.Map.View.{pair_value}
 use Rattle.cose_map.proofs.lemmas.Map.Read.{pairs_on, pairs_off, pairs_done, no_label_after, pair_checked, checked_label}
 use Rattle.cose_map.proofs.lemmas.Label.Order.{greatest_now, none_passed}
-use Rattle.cose_map.proofs.map.read.check_items.Goals as goal
+use Rattle.cose_map.proofs.map.read.check_rising.Goals as goal
 
-pub returns-in_err-name : goal.returns-in_err-name
-returns-in_err-name g c =
+pub returns-in_err-name-clause-refused : goal.returns-in_err-name-clause-refused
+returns-in_err-name-clause-refused g c =
     let p = err_from_is_err_and c.from_residual.result c.from_residual.ensures.1 in
     rw (p.1, p.2) (pairs_off _ _ _ _ _ _ _ _ _ c.in-Some.ensures c.pairs.invariant.onward (no_label_after (g.F.Form.table c.args.form.now) (earlier_pairs c.pairs.earlier) (placed c.in-Some.label) (placed c.in-Some.value) _ c.in_err-name.ensures))
 
-pub returns-then-not-passes : goal.returns-then-not-passes
-returns-then-not-passes g c = c.check_in_any_order.ensures
-
-pub returns-in_err-checked : goal.returns-in_err-checked
-returns-in_err-checked g c =
+pub returns-in_err-checked-clause-refused : goal.returns-in_err-checked-clause-refused
+returns-in_err-checked-clause-refused g c =
     let p = err_from_is_err_and c.from_residual-in_err-checked.result c.from_residual-in_err-checked.ensures.1 in
     let earlier = c.pairs.earlier in
     let new = sym (ap not (none_passed (option_map label_value earlier.greatest) (label_value c.in_ok-name.name) (earlier_pairs earlier) earlier.greatest_of_them (sym c.passes.ensures ∙ c.if-not-passes.false))) in
@@ -52,5 +49,5 @@ pairs-preserved g c =
       few = omega (arith, added.count, shorter, c.pairs.invariant.few);
     }
 
-pub returns : goal.returns
-returns g c = pairs_done _ _ _ _ _ c.in_default.ensures c.pairs.invariant.to_come c.pairs.invariant.onward
+pub returns-clause-found : goal.returns-clause-found
+returns-clause-found g c = pairs_done _ _ _ _ _ c.in_default.ensures c.pairs.invariant.to_come c.pairs.invariant.onward
