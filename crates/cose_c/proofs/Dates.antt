@@ -2,7 +2,7 @@
 use Rattle.std.proofs.Common.{◌≡◌, ◌≢◌, ℕ, zero, suc, ◌<◌, ◌≤◌, List, drop, refl, sym, ap, ◌∙◌, arith}
 use Rattle.cose_head.specs.declared.head.Head.{Head}
 use Rattle.cose_head.specs.Placed.{Look, Placed, head_of_item, integer_in, look, look_with}
-use Rattle.cose_head.proofs.Placed.{negative_found, no_integer, unsigned_found}
+use Rattle.cose_head.proofs.lemmas.Placed.Placed.{negative_found, no_integer, unsigned_found}
 use Rattle.cose_c.specs.CoseClaims.{date_numbers, no_date}
 
 pub looks : (p : Placed) (h : Head) → h ≡ head_of_item p → look p ≡ look_with h (drop h.width p.bytes)

@@ -10,7 +10,7 @@ use Rattle.cose_head.specs.declared.kind.Kind.{Kind}
 use Rattle.cose_head.specs.declared.kind.Kind.TheVariants as kinds
 use Rattle.cose_head.specs.declared.reason.Reason.{Reason}
 use Rattle.cose_head.specs.Algorithm.{algorithm_numbered, is_mac_of, key_type_of, kind_of}
-use Rattle.cose_head.proofs.Algorithms.{each_algorithm}
+use Rattle.cose_head.proofs.lemmas.Algorithms.{each_algorithm}
 use Rattle.cose_map.specs.Choice.{chosen}
 use Rattle.cose_map.specs.Choice.Algorithm.{has_type}
 use Rattle.cose_map.specs.Key.Value.{KeyValue, MaterialValue, elliptic, symmetric}

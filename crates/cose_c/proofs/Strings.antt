@@ -11,7 +11,7 @@ use Rattle.cose_head.specs.declared.refusal.Refusal.{Refusal}
 use Rattle.cose_head.specs.Placed.{Placed, bytes_in, children_of, head_of_item, if_utf8, is_an_array, look, look_with, span_at, text_in}
 use Rattle.cose_head.specs.PlacedLaws.{ChildrenEndInside, EndsBy, end_of}
 use Rattle.cose_head.specs.Reading.{read, head}
-use Rattle.cose_head.proofs.Placed.{bytes_found, no_bytes, no_text, text_found}
+use Rattle.cose_head.proofs.lemmas.Placed.Placed.{bytes_found, no_bytes, no_text, text_found}
 use Rattle.cose_map.specs.Label.{LabelValue}
 use Rattle.cose_map.specs.Laws.Tree.{items_of}
 use Rattle.cose_map.specs.Map.Pairs.{Pair, is_named, value_of}

@@ -6,7 +6,7 @@ use Rattle.std.specs.Prelude.{IsTrue}
 use Rattle.cose_head.specs.declared.algorithm.Alg.{Alg}
 use Rattle.cose_head.specs.Algorithm.{auth_length_of, is_mac_of}
 use Rattle.cose_head.specs.Head.{shortest_head}
-use Rattle.cose_head.proofs.Algorithms.{each_mac}
+use Rattle.cose_head.proofs.lemmas.Algorithms.{each_mac}
 use Rattle.cose_mac.specs.Laws.{MacHasItsLength}
 use Rattle.cose_mac.specs.Structure.{encoded_string}
 use Rattle.cose_msg.specs.Making.{auth_made}

@@ -639,7 +639,7 @@ pub extern "C" fn cose_edge_audience(payload: &[u8], index: u64, audience: &mut 
 }
 
 /// The item that bytes begin with, of a nesting of at most 32. The first byte is at place `at`.
-#[tactic(auto, using(cose_head::proofs::Whole::spelled_is_one_item))]
+#[tactic(auto, using(cose_head::proofs::lemmas::Placed::Whole::spelled_is_one_item))]
 pub(crate) fn first_item(bytes: &[u8], at: u64) -> Option<ItemRef<'_>>
     requires { at + length bytes.now < 2 ^ 64 }
     ensures item { option_map placed result ≡ first_in (record { bytes = bytes.now; place = at }) }

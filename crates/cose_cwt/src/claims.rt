@@ -117,6 +117,14 @@ impl<'a> Claims<'a> {
         self.pairs.get(label)
     }
 
+    /// All claims, in the order of the payload: the label, its item, and the value (RFC 8392
+    /// section 3).
+    pub fn pairs(&self) -> Pairs<'a>
+        ensures { pairs_left result ≡ (claims_value self.now).pairs }
+    {
+        self.pairs
+    }
+
     /// The known claims, each as its item (RFC 8392 section 3.1, RFC 8747 section 3.1).
     pub fn known(&self) -> &Known<'a>
         ensures { known_value result.now ≡ first_values (claims_value self.now).pairs }

@@ -86,7 +86,7 @@ pub(crate) fn take_message<'k, const H: usize, const D: usize, K: Keys<'k>, I: I
 /// The sink has the payload before the verdict is known: drop what it holds after a refusal or a stop. A verifier that
 /// was fed continues from there. A verdict is kept and answered again until `reset`; after a stop every call answers
 /// [`Stop::Again`]. Of message bytes it holds `C` at most in addition to what the verifier holds ([`Verifier::held`]), and, while labels
-/// out of order are looked for, copies of at most 102 labels, of at most 14 bytes each.
+/// out of order are looked for, copies of at most 51 labels, of at most 14 bytes each.
 ///
 /// The verifier isn't one that [`Verifier::inspecting`] or [`Verifier::detached`] made.
 pub fn verify<

@@ -1,4 +1,4 @@
-use Rattle.cose_head.proofs.Placed.{utf8_read}
+use Rattle.cose_head.proofs.lemmas.Placed.Placed.{utf8_read}
 use Rattle.cose_c.proofs.claims.utf8.Goals as goal
 
 pub returns : goal.returns

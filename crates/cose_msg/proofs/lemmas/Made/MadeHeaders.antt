@@ -11,7 +11,7 @@ use Rattle.cose_head.specs.Shortest.{shortest, shortest_all, HasShortest}
 use Rattle.cose_head.specs.declared.algorithm.Alg.{Alg}
 use Rattle.cose_head.specs.declared.kind.Kind.{Kind}
 use Rattle.cose_head.specs.declared.kind.Kind.TheVariants.{Mac0, Sign1}
-use Rattle.cose_head.proofs.Algorithms.{each_algorithm}
+use Rattle.cose_head.proofs.lemmas.Algorithms.{each_algorithm}
 use Rattle.cose_map.specs.Bucket.{bucket_of}
 use Rattle.cose_map.specs.Bucket.Both.{pair_fault, pair_faults}
 use Rattle.cose_map.specs.Bucket.Form.{bucket_table}

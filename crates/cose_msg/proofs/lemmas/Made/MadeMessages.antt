@@ -11,7 +11,7 @@ use Rattle.cose_head.specs.Shortest.{shortest, shortest_all, HasShortest}
 use Rattle.cose_head.specs.declared.algorithm.Alg.{Alg}
 use Rattle.cose_head.specs.declared.kind.Kind.{Kind}
 use Rattle.cose_head.specs.declared.kind.Kind.TheVariants.{Mac0, Sign1}
-use Rattle.cose_head.proofs.Algorithms.{each_algorithm, numbered}
+use Rattle.cose_head.proofs.lemmas.Algorithms.{each_algorithm, numbered}
 use Rattle.cose_mac.specs.Laws.{MacHasItsLength}
 use Rattle.cose_mac.specs.Structure.{structure_of}
 use Rattle.cose_map.specs.Choice.{chosen}

@@ -6,7 +6,7 @@ use Rattle.cose_head.specs.Head.{shortest_head}
 use Rattle.cose_head.specs.Shortest.{shortest, shortest_all}
 use Rattle.cose_head.specs.declared.algorithm.Alg.{Alg}
 use Rattle.cose_head.specs.declared.kind.Kind.TheVariants.{Sign1}
-use Rattle.cose_head.proofs.Algorithms.{each_mac}
+use Rattle.cose_head.proofs.lemmas.Algorithms.{each_mac}
 use Rattle.cose_mac.specs.Structure.{encoded_string}
 use Rattle.cose_msg.specs.Signing.{signed}
 use Rattle.cose_msg.specs.Writes.{front_of, front_under}

@@ -4,7 +4,7 @@ use Rattle.std.proofs.lemmas.Bool.{eqb-true, leb-true}
 use Rattle.cose_head.specs.declared.reason.Reason.{Reason}
 use Rattle.cose_head.specs.declared.algorithm.Alg.{Alg}
 use Rattle.cose_head.specs.Algorithm.{auth_length_of}
-use Rattle.cose_head.proofs.Algorithms.{each_algorithm}
+use Rattle.cose_head.proofs.lemmas.Algorithms.{each_algorithm}
 use Rattle.cose_msg.specs.Answer.{Answer, Chosen, Whole}
 use Rattle.cose_msg.specs.Laws.{AuthIsAtMost, MessageIsVerifiedWithin, MessageIsInspectedWithin}
 use Rattle.cose_msg.specs.Message.{Setting, rules_with, found_key, as_choice, key_choice_of, has_auth_length, uncompared, comparing, verifying, inspecting}

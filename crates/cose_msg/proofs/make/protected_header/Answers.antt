@@ -6,7 +6,7 @@ use Rattle.cose_head.specs.Algorithm.{algorithm_number, is_mac_of}
 use Rattle.cose_head.specs.Head.{shortest_head}
 use Rattle.cose_head.specs.Shortest.{shortest, shortest_all}
 use Rattle.cose_head.specs.declared.algorithm.Alg.{Alg}
-use Rattle.cose_head.proofs.Algorithms.{each_mac}
+use Rattle.cose_head.proofs.lemmas.Algorithms.{each_mac}
 use Rattle.cose_msg.specs.Making.{protected_made}
 use Rattle.cose_msg.proofs.make.protected_header.Goals as goal
 

@@ -7,7 +7,7 @@ use Rattle.cose_head.specs.Algorithm.{algorithm_number, is_mac_of}
 use Rattle.cose_head.specs.Head.{shortest_head}
 use Rattle.cose_head.specs.Shortest.{shortest, shortest_all}
 use Rattle.cose_head.specs.declared.algorithm.Alg.{Alg}
-use Rattle.cose_head.proofs.Algorithms.{each_algorithm}
+use Rattle.cose_head.proofs.lemmas.Algorithms.{each_algorithm}
 use Rattle.cose_msg.specs.Making.{protected_made}
 use Rattle.cose_msg.proofs.lemmas.Made.MadeHeaders.{protected_length}
 use Rattle.cose_msg.proofs.make.sign1_maker.protected_signed.Goals as goal

@@ -19,7 +19,7 @@ returns g c = record {
 }
 
 pub invariant_of-self-2-clause-some_wanted : goal.invariant_of-self-2-clause-some_wanted
-invariant_of-self-2-clause-some_wanted g c = c.want.ensures.some c.new-self.ensures.put.going
+invariant_of-self-2-clause-some_wanted g c = c.want.ensures.some c.new-self.ensures.put.is_going
 
 pub walker_is_reading-requires : goal.walker_is_reading-requires
 walker_is_reading-requires g c = cc
