@@ -21,6 +21,7 @@ use Rattle.cose_cwt.specs.Claims.{ClaimsValue}
 use Rattle.cose_cwt.specs.Requirements.{RequirementsValue, met}
 use Rattle.cose_cwt.specs.Token.{IsRun, IsToken, Outcome, UnlessStopped, of_claims, read_as, stop_in, token_of}
 use Rattle.cosecmd.specs.declared.reply.Reply.{Reply}
+use Rattle.cosecmd.specs.declared.request.Printing.{Printing}
 use Rattle.cosecmd.specs.Admitted.{Admission, if_admitted, if_met, input_token, or_trailing, required_then, stopped_in, token_told, unless_trailed}
 use Rattle.cosecmd.specs.Printed.{Says, admitted_under, trailing_refusal, outcome_said, token_setting}
 use Rattle.cosecmd.specs.Under.{Under}
@@ -126,16 +127,16 @@ module _ (header nesting : ℕ) where
   of_left setting decides policy requirements bytes come_after count claims seen left h = h left.0 left.1 ∙ sym left.2
 
 -- A reply with the outcome for a token, where nothing stopped it.
-says_unless : {F : Type 0} (readable : Bool) (outcome whole : Admission) (reply : Result Reply F) → (stopped_in outcome ≡ None → outcome ≡ whole) → IfOk reply (Says (outcome_said readable outcome)) → IfOk reply (λ _. stopped_in outcome ≡ None) →
-    IfOk reply (Says (outcome_said readable whole))
-says_unless readable outcome whole (Err fault) is says unstopped = tt
-says_unless readable outcome whole (Ok reply) is says unstopped = subst (λ (o : Admission). Says (outcome_said readable o) reply) (is unstopped) says
+says_unless : {F : Type 0} (printing : Printing) (outcome whole : Admission) (reply : Result Reply F) → (stopped_in outcome ≡ None → outcome ≡ whole) → IfOk reply (Says (outcome_said printing outcome)) → IfOk reply (λ _. stopped_in outcome ≡ None) →
+    IfOk reply (Says (outcome_said printing whole))
+says_unless printing outcome whole (Err fault) is says unstopped = tt
+says_unless printing outcome whole (Ok reply) is says unstopped = subst (λ (o : Admission). Says (outcome_said printing o) reply) (is unstopped) says
 
-pub says_admitted : {F : Type 0} (under : Under) (keys : List KeyValue) (setting : Setting) (policy : PolicyValue) (requirements : RequirementsValue) (readable : Bool) (bytes : List ℕ) (outcome : Admission) (reply : Result Reply F) →
-    under.keys ≡ Ok keys → setting ≡ token_setting under.room.claims keys under.aad under.wanted → (stopped_in outcome ≡ None → outcome ≡ input_token under.room.header under.room.nesting setting (vouching under.vouch) policy requirements bytes) → IfOk reply (Says (outcome_said readable outcome)) →
-    IfOk reply (λ _. stopped_in outcome ≡ None) → IfOk reply (Says (admitted_under under policy requirements readable bytes))
-says_admitted under keys setting policy requirements readable bytes outcome reply usable set is says unstopped =
-    let said = says_unless readable outcome (input_token under.room.header under.room.nesting setting (vouching under.vouch) policy requirements bytes) reply is says unstopped in
-    let same : outcome_said readable (input_token under.room.header under.room.nesting setting (vouching under.vouch) policy requirements bytes) ≡ admitted_under under policy requirements readable bytes =
-    ap (λ (x : Setting). outcome_said readable (input_token under.room.header under.room.nesting x (vouching under.vouch) policy requirements bytes)) set ∙ sym (said_with_keys under.keys keys _ usable) in
+pub says_admitted : {F : Type 0} (under : Under) (keys : List KeyValue) (setting : Setting) (policy : PolicyValue) (requirements : RequirementsValue) (printing : Printing) (bytes : List ℕ) (outcome : Admission) (reply : Result Reply F) →
+    under.keys ≡ Ok keys → setting ≡ token_setting under.room.claims keys under.aad under.wanted → (stopped_in outcome ≡ None → outcome ≡ input_token under.room.header under.room.nesting setting (vouching under.vouch) policy requirements bytes) → IfOk reply (Says (outcome_said printing outcome)) →
+    IfOk reply (λ _. stopped_in outcome ≡ None) → IfOk reply (Says (admitted_under under policy requirements printing bytes))
+says_admitted under keys setting policy requirements printing bytes outcome reply usable set is says unstopped =
+    let said = says_unless printing outcome (input_token under.room.header under.room.nesting setting (vouching under.vouch) policy requirements bytes) reply is says unstopped in
+    let same : outcome_said printing (input_token under.room.header under.room.nesting setting (vouching under.vouch) policy requirements bytes) ≡ admitted_under under policy requirements printing bytes =
+    ap (λ (x : Setting). outcome_said printing (input_token under.room.header under.room.nesting x (vouching under.vouch) policy requirements bytes)) set ∙ sym (said_with_keys under.keys keys _ usable) in
     subst (λ o. IfOk reply (Says o)) same said

@@ -52,11 +52,11 @@ not_made (asks.Keys words) A by_name other = refl
 
 -- What `cwt` prints of one token, or of each of a sequence, by this policy and with these requirements.
 pub token_words : (admits : Admits) (words : CwtWords) (policy : PolicyValue) (now : ℤ) (requirements : RequirementsValue) (bytes : List ℕ) → policy ≡ program_policy now words.leeway (option_map text_value words.aud) →
-    requirements ≡ requirements_for now words.leeway words.required → now ≡ words.now → admits (under_of words.checks) policy requirements words.readable bytes ≡ admits_for_words admits words bytes
+    requirements ≡ requirements_for now words.leeway words.required → now ≡ words.now → admits (under_of words.checks) policy requirements words.printing bytes ≡ admits_for_words admits words bytes
 token_words admits words policy now requirements bytes by required n =
-    ap (λ (p : PolicyValue). admits (under_of words.checks) p requirements words.readable bytes) by
-    ∙ ap (λ (r : RequirementsValue). admits (under_of words.checks) (program_policy now words.leeway (option_map text_value words.aud)) r words.readable bytes) required
-    ∙ ap (λ (at : ℤ). admits (under_of words.checks) (program_policy at words.leeway (option_map text_value words.aud)) (requirements_for at words.leeway words.required) words.readable bytes) n
+    ap (λ (p : PolicyValue). admits (under_of words.checks) p requirements words.printing bytes) by
+    ∙ ap (λ (r : RequirementsValue). admits (under_of words.checks) (program_policy now words.leeway (option_map text_value words.aud)) r words.printing bytes) required
+    ∙ ap (λ (at : ℤ). admits (under_of words.checks) (program_policy at words.leeway (option_map text_value words.aud)) (requirements_for at words.leeway words.required) words.printing bytes) n
 
 -- A message that is made of the bytes of the arguments.
 pub making_words : (words : MakeWords) (key : List ℕ) (kid : Option (List ℕ)) (aad bytes : List ℕ) → key ≡ words.key.items → kid ≡ option_map (λ word. word.items) words.kid → aad ≡ words.aad.items →

@@ -14,7 +14,7 @@ use Rattle.cosecmd.specs.Admitted.{program_policy}
 use Rattle.cosecmd.specs.AskedKeys.{asked}
 use Rattle.cosecmd.specs.CommandLine.{IsFoundIn, IsReadFrom, ask_for_help, begins_as_answer, command_prints, keys_prints, line_prints, make_prints, matches_print, payload_named, tokens_print}
 use Rattle.cosecmd.specs.Fields.{AreChecks, CwtFields, IsListedAs, KeysFields, MakeFields, checks_in}
-use Rattle.cosecmd.specs.Options.{Options, ◌>>=◌, flag_in, key_in, key_set_in, message_in, text_in}
+use Rattle.cosecmd.specs.Options.{Options, ◌>>=◌, key_in, key_set_in, message_in, printing_in, text_in}
 use Rattle.cosecmd.specs.PayloadTo.{checks_named, new_file_of}
 use Rattle.cosecmd.specs.Printed.{Admits, Output, items_listed, items_listed_for, keys_said, made_under}
 use Rattle.cosecmd.specs.Requirements.{requirements_with}
@@ -23,6 +23,7 @@ use Rattle.cosecmd.specs.Arguments.{admits_for_words, made_for}
 use Rattle.cosecmd.specs.declared.request.Cwt.{Cwt}
 use Rattle.cosecmd.specs.declared.request.Keys.{Keys}
 use Rattle.cosecmd.specs.declared.request.Make.{Make}
+use Rattle.cosecmd.specs.declared.request.Printing.{Printing}
 use Rattle.cosecmd.specs.declared.request.Checks.{Checks}
 use Rattle.cosecmd.specs.declared.reply.Reply.{Reply}
 use Rattle.cosecmd.specs.declared.reply.Status.TheVariants as statuses
@@ -52,13 +53,13 @@ cwt_asks admits content options words bytes said fields prints = go (checks_in c
         cc
     go (Some under) checks =
         let required : RequirementsValue = requirements_with words.now words.leeway options words.required.present.items in
-        let some : Some (admits under (program_policy words.now words.leeway (text_in (codes "aud") options)) required (flag_in (codes "text") options) bytes) ≡ Some said =
+        let some : Some (admits under (program_policy words.now words.leeway (text_in (codes "aud") options)) required (printing_in options) bytes) ≡ Some said =
         rw (checks, fields.now, fields.leeway, fields.required.present) at prints in
-        let same : admits under (program_policy words.now words.leeway (text_in (codes "aud") options)) required (flag_in (codes "text") options) bytes ≡ said = cc in
-        ap (λ (r : RequirementsValue). admits (under_of words.checks) (program_policy words.now words.leeway (option_map text_value words.aud)) r words.readable bytes)
-        (same_requirements words.now words.leeway options words.required fields.required) ∙ ap (λ (aud : Option (List ℕ)). admits (under_of words.checks) (program_policy words.now words.leeway aud) required words.readable bytes) fields.aud
-        ∙ ap (λ (readable : Bool). admits (under_of words.checks) (program_policy words.now words.leeway (text_in (codes "aud") options)) required readable bytes) fields.readable
-        ∙ ap (λ (u : Under). admits u (program_policy words.now words.leeway (text_in (codes "aud") options)) required (flag_in (codes "text") options) bytes) (fields.checks under checks) ∙ same
+        let same : admits under (program_policy words.now words.leeway (text_in (codes "aud") options)) required (printing_in options) bytes ≡ said = cc in
+        ap (λ (r : RequirementsValue). admits (under_of words.checks) (program_policy words.now words.leeway (option_map text_value words.aud)) r words.printing bytes)
+        (same_requirements words.now words.leeway options words.required fields.required) ∙ ap (λ (aud : Option (List ℕ)). admits (under_of words.checks) (program_policy words.now words.leeway aud) required words.printing bytes) fields.aud
+        ∙ ap (λ (printing : Printing). admits (under_of words.checks) (program_policy words.now words.leeway (text_in (codes "aud") options)) required printing bytes) fields.printing
+        ∙ ap (λ (u : Under). admits u (program_policy words.now words.leeway (text_in (codes "aud") options)) required (printing_in options) bytes) (fields.checks under checks) ∙ same
 
 -- For a message or for none, the lines of these bytes are those of the argument or of the file.
 listed_as : (content : List ℕ → Option (List ℕ)) (options : Options) (keys known : List ℕ) (message : Option Wanted) (bytes : List ℕ) → IsListedAs content options keys → key_set_in content options ≡ Some known →

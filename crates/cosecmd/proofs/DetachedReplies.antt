@@ -1,15 +1,16 @@
 -- A reply to what is asked of a message whose payload is detached.
 use Rattle.std.proofs.Common.{◌≡◌, ℕ, zero, suc, ◌<◌, ◌≤◌, ◌^◌, Bool, true, false, List, [], ◌++◌, take, length, Option, Some, None, Result, Ok, Err, refl, sym, ap, subst, ◌∙◌, arith, append-nil}
-use Rattle.std.specs.Prelude.{IfOk, nat_lt}
+use Rattle.std.specs.Prelude.{IfOk, map, nat_lt, string_bytes}
 use Rattle.std.specs.Io.KnownBytes.{Consumes, IsAtEnd}
 use Rattle.std.proofs.lemmas.Bool.{ltb-true, ltb-false}
 use Rattle.std.proofs.lemmas.List.{length-take-le}
 use Rattle.cose_map.specs.Key.Value.{KeyValue}
+use Rattle.cose_map.specs.Map.Pairs.{Pair}
 use Rattle.cose_map.specs.Map.Read.{Read}
 use Rattle.cose_msg.specs.declared.verdict.Verdict.{Verdict}
 use Rattle.cose_msg.specs.Answer.{decided}
 use Rattle.cose_msg.specs.GrammarLaws.{MessageIsRead}
-use Rattle.cose_msg.specs.Laws.{MessageStays, PayloadStays, VerifyingGoesLast, then_verified}
+use Rattle.cose_msg.specs.Laws.{MessageStays, PayloadStays, VerifyingGoesLast, answered, then_verified}
 use Rattle.cose_msg.specs.Message.{Decides, Setting, comparing, message, verifying}
 use Rattle.cose_msg.specs.Reader.{Counts}
 use Rattle.cose_msg.specs.Reading.{Reading}
@@ -22,7 +23,7 @@ use Rattle.cosecmd.specs.declared.request.Question.TheVariants as questions
 use Rattle.cosecmd.specs.declared.reply.Reply.{Reply}
 use Rattle.cosecmd.specs.Faults.{FailsForKeys}
 use Rattle.cosecmd.specs.PayloadFile.{counted, never}
-use Rattle.cosecmd.specs.Printed.{Output, Says, answered_in, answered_under, digested_as, digested_before, output_of, setting_under, signature_asked, trailed, with_payload}
+use Rattle.cosecmd.specs.Printed.{Output, Says, answered_in, answered_under, digested_as, headed_of, output_of, said_before, setting_under, trailed, with_payload}
 use Rattle.cosecmd.specs.Stated.{AnsweredOf, RepliesWith, answered_from, answered_of_short, answered_short, payload_wanted_of, stating, unless_missing}
 use Rattle.cosecmd.specs.Under.{Under}
 use Rattle.cosecmd.specs.Vouch.{vouching}
@@ -35,11 +36,13 @@ use Rattle.cosecmd.proofs.Trailing.{left_of_input}
 abbrev answered_by : Question → List ℕ → Decides → ℕ → Reading → Output
 answered_by questions.Verdict aad decides n reading = output_of (trailed n (then_verified aad decides reading.answer))
 answered_by questions.Digest aad decides n reading = digested_as aad (trailed n reading.answer)
+answered_by (questions.Headers labels) aad decides n reading = headed_of (map string_bytes labels.items) n (answered (then_verified aad decides) reading)
 
 by_reading : (last : VerifyingGoesLast) (question : Question) (header nesting : ℕ) (setting : Setting) (decides : Decides) (bytes : List ℕ) →
     answered_in question header nesting setting decides bytes ≡ answered_by question setting.aad decides (length bytes) (message (comparing header nesting setting) bytes)
 by_reading last questions.Verdict header nesting setting decides bytes = ap (λ (r : Reading). output_of (trailed (length bytes) r.answer)) (last header nesting setting decides bytes)
 by_reading last questions.Digest header nesting setting decides bytes = refl
+by_reading last (questions.Headers labels) header nesting setting decides bytes = ap (headed_of (map string_bytes labels.items) (length bytes)) (last header nesting setting decides bytes)
 
 module _ (question : Question) (header nesting : ℕ) (last : VerifyingGoesLast) (decides : Decides) where
   -- ---- the reply after a run over both inputs
@@ -57,22 +60,23 @@ module _ (question : Question) (header nesting : ℕ) (last : VerifyingGoesLast)
   }
 
   pub answered_of_run : {F : Type 0} (setting : Setting) (stated : ℕ) (bytes : List ℕ) (stays : MessageStays) (is_read : MessageIsRead) (is_message : UnrefusedIsMessage)
-      (come come_after : Option (List ℕ)) (taken came : List ℕ) (beside beside_after : Option (List ℕ)) (beside_ended : Bool) (verdict : Verdict) (count : ℕ) (input : Option SignInput) (reply : Result Reply F) →
+      (come come_after : Option (List ℕ)) (taken came : List ℕ) (beside beside_after : Option (List ℕ)) (beside_ended : Bool) (verdict : Verdict) (count : ℕ) (input : Option SignInput) (protected unprotected : Option (List Pair)) (reply : Result Reply F) →
       come ≡ Some bytes → Consumes come come_after taken → Consumes beside beside_after came → length came ≤ stated →
       ((message (verifying header nesting (stating came stated setting) decides) taken).settled ≡ false → IsAtEnd come_after) →
       ((n : ℕ) → n < length taken → (message (verifying header nesting (stating came stated setting) decides) (take n taken)).settled ≡ false) →
       (message (verifying header nesting (stating came stated setting) decides) taken).answer ≡ decided verdict →
       Counts verdict (length taken) → count ≡ length taken → input ≡ sign_input_in setting.aad (message (comparing header nesting (stating came stated setting)) taken).answer →
+      protected ≡ (message (comparing header nesting (stating came stated setting)) taken).so_far.protected → unprotected ≡ (message (comparing header nesting (stating came stated setting)) taken).so_far.unprotected →
       (0 < (message (verifying header nesting (stating came stated setting) decides) taken).payload_wanted → (beside_ended ≡ true) × IsAtEnd beside_after) →
-      ((rest : List ℕ) → come_after ≡ Some rest → IfOk reply (Says (digested_before rest (signature_asked question input) count verdict))) →
+      ((rest : List ℕ) → come_after ≡ Some rest → IfOk reply (Says (said_before question rest input count protected unprotected verdict))) →
       IfOk reply (AnsweredOf question header nesting setting decides stated bytes beside beside_after beside_ended)
-  answered_of_run setting stated bytes stays is_read is_message come come_after taken came beside beside_after beside_ended verdict count input reply told consumes both within ended earlier answer counts counted is wants says =
+  answered_of_run setting stated bytes stays is_read is_message come come_after taken came beside beside_after beside_ended verdict count input protected unprotected reply told consumes both within ended earlier answer counts counted is is_protected is_unprotected wants says =
       let at = stating came stated setting in
       let o = left_of_input come come_after bytes taken told consumes in
       let at_end : (message (verifying header nesting (stating came stated setting) decides) taken).settled ≡ false → o.0 ≡ [] = λ unsettled. let end = rw o.1 at ended unsettled in end in
       let wanted = wanted_whole header nesting at bytes stays last decides taken o.0 o.2 at_end in
       says_of setting stated bytes came beside beside_after beside_ended reply both within (λ some. wants (subst (λ (n : ℕ). 0 < n) wanted some))
-      (says_equal reply _ _ (is_answered header nesting at bytes stays last decides taken o.0 o.2 at_end is_read is_message earlier verdict answer counts count counted question input is) (says o.0 o.1))
+      (says_equal reply _ _ (is_answered header nesting at bytes stays last decides taken o.0 o.2 at_end is_read is_message earlier verdict answer counts count counted question input protected unprotected is is_protected is_unprotected) (says o.0 o.1))
 
   -- ---- a payload whose bytes are known
 

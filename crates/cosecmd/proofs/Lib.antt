@@ -8,6 +8,7 @@ pub mod ChecksAsked
 pub mod CommandLines
 pub mod DetachedReplies
 pub mod Failures
+pub mod HeaderLabels
 pub mod HostFiles
 pub mod KeptPayloads
 pub mod KeptRequests
@@ -35,6 +36,7 @@ pub mod WorkedAdmitted
 pub mod WorkedAllowed
 pub mod WorkedAsked
 pub mod WorkedDigests
+pub mod WorkedHeaders
 pub mod WorkedKept
 pub mod WorkedLimits
 pub mod WorkedListed

@@ -1,12 +1,13 @@
 -- A reply to what is asked of the message of an input: its verdict, or what its signature is verified with.
 use Rattle.std.proofs.Common.{◌≡◌, ℕ, ◌<◌, ◌≤◌, Bool, true, false, List, [], ◌∷◌, ◌++◌, length, take, Option, Some, None, Result, refl, sym, ap, subst, ◌∙◌, arith, append-nil}
-use Rattle.std.specs.Prelude.{IfOk, nat_lt, option_map}
+use Rattle.std.specs.Prelude.{IfOk, map, nat_lt, option_map, string_bytes}
 use Rattle.std.specs.Str.{bytes_eq}
 use Rattle.std.specs.Io.KnownBytes.{Consumes, IsAtEnd}
 use Rattle.std.proofs.lemmas.Bool.{ltb-true, ltb-false}
 use Rattle.cose_head.specs.Algorithm.{is_mac_of}
 use Rattle.cose_head.specs.declared.reason.Reason.TheVariants.{Trailing}
 use Rattle.cose_head.specs.declared.refusal.Refusal.{Refusal}
+use Rattle.cose_map.specs.Map.Pairs.{Pair}
 use Rattle.cose_msg.specs.declared.verdict.Verdict.{Verdict}
 use Rattle.cose_msg.specs.declared.verdict.Verdict.TheVariants.{Refused}
 use Rattle.cose_msg.specs.Answer.{Answer, decided, complete, shaped, Chosen, Whole}
@@ -22,7 +23,7 @@ use Rattle.cosecmd.proofs.Trailing.{all_taken, kept_at_end, left_of_input, refus
 use Rattle.cosecmd.specs.declared.request.Question.{Question}
 use Rattle.cosecmd.specs.declared.request.Question.TheVariants as questions
 use Rattle.cosecmd.specs.declared.reply.Reply.{Reply}
-use Rattle.cosecmd.specs.Printed.{Output, Says, answered_in, digested, digested_as, digested_before, digested_in, followed_by, input_answer, output_of, said_of, signature_asked, trailed, trailing_refusal, vouched}
+use Rattle.cosecmd.specs.Printed.{Output, Says, answered_in, digested, digested_as, digested_before, digested_in, followed_by, headed_in, headed_of, input_answer, output_of, output_with, said_before, said_of, said_with, trailed, trailing_refusal, vouched}
 use Rattle.cosecmd.specs.Stated.{payload_wanted_of}
 use Rattle.cosecmd.specs.Vouch.{vouch_word}
 
@@ -167,10 +168,26 @@ module _ (header nesting : ℕ) (setting : Setting) (bytes : List ℕ) (stays : 
         ap (λ (r : Reading). trailed (length bytes) r.answer) same ∙ ap (trailed (length bytes)) answer ∙ trails bytes taken rest verdict split counts in
         sym (ap output_of all)
 
-    pub is_answered : (question : Question) (input : Option SignInput) → input ≡ sign_input_in setting.aad (message (comparing header nesting setting) taken).answer →
-        digested_before rest (signature_asked question input) count verdict ≡ answered_in question header nesting setting decides bytes
-    is_answered questions.Verdict input signed = is_verified
-    is_answered questions.Digest input signed = is_digested input signed
+    -- Where header parameters are asked for too, the buckets are those of the bytes taken.
+    is_headed : (labels : List (List ℕ)) (protected unprotected : Option (List Pair)) → protected ≡ (message (comparing header nesting setting) taken).so_far.protected →
+        unprotected ≡ (message (comparing header nesting setting) taken).so_far.unprotected → said_with labels protected unprotected (followed_by rest verdict) ≡ headed_in labels header nesting setting decides bytes
+    unfolding rules
+    is_headed labels protected unprotected is_protected is_unprotected =
+        let reading : Reading = message (verifying header nesting setting decides) taken in
+        let same : message (verifying header nesting setting decides) bytes ≡ reading = all_come_to stays (verifying header nesting setting decides) bytes taken rest split ended in
+        let all : trailed (length bytes) reading.answer ≡ decided (followed_by rest verdict) = ap (trailed (length bytes)) answer ∙ trails bytes taken rest verdict split counts in
+        let one : reading.so_far.protected ≡ protected = ap (λ (r : Reading). r.so_far.protected) (verified_after taken) ∙ sym is_protected in
+        let other : reading.so_far.unprotected ≡ unprotected = ap (λ (r : Reading). r.so_far.unprotected) (verified_after taken) ∙ sym is_unprotected in
+        sym (ap (headed_of labels (length bytes)) same ∙ ap (output_with labels reading.so_far.protected reading.so_far.unprotected) all
+        ∙ ap (λ (p : Option (List Pair)). said_with labels p reading.so_far.unprotected (followed_by rest verdict)) one
+        ∙ ap (λ (p : Option (List Pair)). said_with labels protected p (followed_by rest verdict)) other)
+
+    pub is_answered : (question : Question) (input : Option SignInput) (protected unprotected : Option (List Pair)) → input ≡ sign_input_in setting.aad (message (comparing header nesting setting) taken).answer →
+        protected ≡ (message (comparing header nesting setting) taken).so_far.protected → unprotected ≡ (message (comparing header nesting setting) taken).so_far.unprotected →
+        said_before question rest input count protected unprotected verdict ≡ answered_in question header nesting setting decides bytes
+    is_answered questions.Verdict input protected unprotected signed is_protected is_unprotected = is_verified
+    is_answered questions.Digest input protected unprotected signed is_protected is_unprotected = is_digested input signed
+    is_answered (questions.Headers labels) input protected unprotected signed is_protected is_unprotected = is_headed (map string_bytes labels.items) protected unprotected is_protected is_unprotected
 
 -- ---- replies
 
@@ -179,15 +196,16 @@ says_equal reply said asked same says = subst (λ (o : Output). IfOk reply (Says
 
 -- The reply to an input whose bytes are known.
 pub says_answered : {F : Type 0} (question : Question) (header nesting : ℕ) (setting : Setting) (bytes : List ℕ) (stays : MessageStays) (last : VerifyingGoesLast) (decides : Decides) (is_read : MessageIsRead) (is_message : UnrefusedIsMessage)
-    (come come_after : Option (List ℕ)) (taken : List ℕ) (verdict : Verdict) (count : ℕ) (input : Option SignInput) (reply : Result Reply F) → come ≡ Some bytes → Consumes come come_after taken →
+    (come come_after : Option (List ℕ)) (taken : List ℕ) (verdict : Verdict) (count : ℕ) (input : Option SignInput) (protected unprotected : Option (List Pair)) (reply : Result Reply F) → come ≡ Some bytes → Consumes come come_after taken →
     ((message (verifying header nesting setting decides) taken).settled ≡ false → IsAtEnd come_after) →
     ((n : ℕ) → n < length taken → (message (verifying header nesting setting decides) (take n taken)).settled ≡ false) → (message (verifying header nesting setting decides) taken).answer ≡ decided verdict →
     Counts verdict (length taken) → count ≡ length taken → input ≡ sign_input_in setting.aad (message (comparing header nesting setting) taken).answer →
-    ((rest : List ℕ) → come_after ≡ Some rest → IfOk reply (Says (digested_before rest (signature_asked question input) count verdict))) → IfOk reply (Says (answered_in question header nesting setting decides bytes))
-says_answered question header nesting setting bytes stays last decides is_read is_message come come_after taken verdict count input reply told consumes ended earlier answer counts counted is says =
+    protected ≡ (message (comparing header nesting setting) taken).so_far.protected → unprotected ≡ (message (comparing header nesting setting) taken).so_far.unprotected →
+    ((rest : List ℕ) → come_after ≡ Some rest → IfOk reply (Says (said_before question rest input count protected unprotected verdict))) → IfOk reply (Says (answered_in question header nesting setting decides bytes))
+says_answered question header nesting setting bytes stays last decides is_read is_message come come_after taken verdict count input protected unprotected reply told consumes ended earlier answer counts counted is is_protected is_unprotected says =
     let o = left_of_input come come_after bytes taken told consumes in
     let at_end : (message (verifying header nesting setting decides) taken).settled ≡ false → o.0 ≡ [] = λ unsettled. let end = rw o.1 at ended unsettled in end in
-    says_equal reply _ _ (is_answered header nesting setting bytes stays last decides taken o.0 o.2 at_end is_read is_message earlier verdict answer counts count counted question input is) (says o.0 o.1)
+    says_equal reply _ _ (is_answered header nesting setting bytes stays last decides taken o.0 o.2 at_end is_read is_message earlier verdict answer counts count counted question input protected unprotected is is_protected is_unprotected) (says o.0 o.1)
 
 -- The replies of the three cases.
 pub says_unsigned : {F : Type 0} (rest : List ℕ) (input : Option SignInput) (count : ℕ) (verdict : Verdict) (reply : Result Reply F) → None ≡ input →

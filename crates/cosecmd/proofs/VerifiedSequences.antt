@@ -1,5 +1,5 @@
 -- A sequence whose messages are verified, or whose tokens are admitted, under a key set.
-use Rattle.std.proofs.Common.{◌≡◌, ℕ, Bool, List, [], Option, Some, Ok, refl, subst}
+use Rattle.std.proofs.Common.{◌≡◌, ℕ, List, [], Option, Some, Ok, refl, subst}
 use Rattle.std.specs.Io.Buffered.{reader_buffer, reader_capacity, reader_inner, reader_remaining}
 use Rattle.std.specs.declared.io.buffered.BufReader.{BufReader}
 use Rattle.cose_cwt.specs.Admission.{PolicyValue}
@@ -9,6 +9,7 @@ use Rattle.cose_map.specs.Key.Value.{KeyValue}
 use Rattle.cose_msg.specs.Message.{Setting}
 use Rattle.cosecmd.specs.Admitted.{input_token}
 use Rattle.cosecmd.specs.declared.reply.Status.{Status}
+use Rattle.cosecmd.specs.declared.request.Printing.{Printing}
 use Rattle.cosecmd.specs.Printed.{Output, Prints, input_answer, outcome_said, output_of, setting_under, token_setting}
 use Rattle.cosecmd.specs.Sequence.{admitted_sequence, sequence_said, verified_sequence}
 use Rattle.cosecmd.specs.Under.{Under}
@@ -22,14 +23,14 @@ verified_in setting under bytes =
 pub verified_as : (under : Under) (keys : List KeyValue) (setting : Setting) (bytes : List ℕ) → under.keys ≡ Ok keys → setting ≡ setting_under under keys → verified_in setting under bytes ≡ verified_sequence under bytes
 verified_as under keys setting bytes set same = rw (same, set) refl
 
-abbrev pub admitted_in : Setting → Under → PolicyValue → RequirementsValue → Bool → List ℕ → Output
-admitted_in setting under policy requirements readable bytes =
+abbrev pub admitted_in : Setting → Under → PolicyValue → RequirementsValue → Printing → List ℕ → Output
+admitted_in setting under policy requirements printing bytes =
     sequence_said (read_as under.room.header under.room.nesting setting (vouching under.vouch))
-    (λ message. outcome_said readable (input_token under.room.header under.room.nesting setting (vouching under.vouch) policy requirements message)) bytes
+    (λ message. outcome_said printing (input_token under.room.header under.room.nesting setting (vouching under.vouch) policy requirements message)) bytes
 
-pub admitted_as : (under : Under) (policy : PolicyValue) (requirements : RequirementsValue) (readable : Bool) (keys : List KeyValue) (setting : Setting) (bytes : List ℕ) → under.keys ≡ Ok keys → setting ≡ token_setting under.room.claims keys under.aad under.wanted →
-    admitted_in setting under policy requirements readable bytes ≡ admitted_sequence under policy requirements readable bytes
-admitted_as under policy requirements readable keys setting bytes set same = rw (same, set) refl
+pub admitted_as : (under : Under) (policy : PolicyValue) (requirements : RequirementsValue) (printing : Printing) (keys : List KeyValue) (setting : Setting) (bytes : List ℕ) → under.keys ≡ Ok keys → setting ≡ token_setting under.room.claims keys under.aad under.wanted →
+    admitted_in setting under policy requirements printing bytes ≡ admitted_sequence under policy requirements printing bytes
+admitted_as under policy requirements printing keys setting bytes set same = rw (same, set) refl
 
 -- What was printed is what is printed for equal outputs.
 pub prints_as : (said wanted : List ℕ → Output) (bytes : List ℕ) (old new : Option (List ℕ)) (status : Status) → ((input : List ℕ) → said input ≡ wanted input) → Prints (said bytes) old new status → Prints (wanted bytes) old new status

@@ -34,12 +34,13 @@ use Rattle.cose_cwt.specs.Claims.Form.{claims_table}
 use Rattle.cose_cwt.specs.Confirmation.{confirmation_of, members_table}
 use Rattle.cose_cwt.specs.Requirements.{RequirementsValue, unmet}
 use Rattle.cose_cwt.specs.Token.{of_claims}
+use Rattle.cose_text.specs.Diagnostic.{diagnostic}
 use Rattle.cosecmd.specs.declared.reply.Status.TheVariants as statuses
 use Rattle.cosecmd.specs.Admitted.{if_admitted, program_policy, token_told}
 use Rattle.cosecmd.specs.Printed.{Output, admitted_under, outcome_said}
 use Rattle.cosecmd.specs.Requirements.{required_at}
 use Rattle.cosecmd.specs.Vouch.{vouching}
-use Rattle.cosecmd.proofs.WorkedPrinted.{hex, any, checks_for, line, Prints, plain, jefe, point}
+use Rattle.cosecmd.proofs.WorkedPrinted.{hex, any, briefly, checks_for, line, Prints, plain, jefe, point}
 use Rattle.cosecmd.proofs.WorkedShown.{lines}
 use Rattle.hex.specs.Hex.{encode_with}
 
@@ -51,7 +52,7 @@ nothing now leeway = required_at (pos now) leeway [] None None None None None
 -- text names.
 unfoldable said : ℕ → ℕ → Option String → List ℕ → Output
 unfolding unmet admitted claims_of claims_table members_table confirmation_of texts_from key_of key_table material_of check_pairs children_of items_from look head_of_item bare_head read head depth_of is_utf8 chars lib.Utf8.encode digits encode_with
-said now leeway aud payload = outcome_said false (if_admitted (nothing now leeway) (of_claims (admitted_claims 8 (program_policy (pos now) leeway (option_map codes aud)) payload)))
+said now leeway aud payload = outcome_said briefly (if_admitted (nothing now leeway) (of_claims (admitted_claims 8 (program_policy (pos now) leeway (option_map codes aud)) payload)))
 
 -- The claims of RFC 8392 appendix A.1: exp is 1444064944 at 59, nbf 1443944944 at 65, and the audience is at 32.
 abbrev pub example : String
@@ -146,10 +147,21 @@ confirmed_sign : said 0 0 None (hex "a108a101a401022001215820" ++ (replicate 32 
 unfolding said
 confirmed_sign = refl
 
+-- The claims that aren't registered, where they are asked for: after the others, in the order of the payload, a confirmation (8)
+-- among them. A text ends no line.
+unfoldable said_of_all : List ℕ → Output
+unfolding said diagnostic
+said_of_all payload = outcome_said (record briefly { others = true }) (if_admitted (nothing 0 0) (of_claims (admitted_claims 8 (program_policy (pos 0) 0 None) payload)))
+
+other_claims : said_of_all (hex "a6 0a 4178 02 6173 6173 63610a62 20 821907d0f5 08a103420b71 00f6") ≡
+    lines ("admitted" ∷ "sub 73" ∷ "cnf kid 0b71" ∷ "claim 10: h'78'" ∷ "claim \"s\": \"a\\u000ab\"" ∷ "claim -1: [2000, true]" ∷ "claim 8: {3: h'0b71'}" ∷ "claim 0: null" ∷ [])
+unfolding said_of_all
+other_claims = refl
+
 -- To admit a token of either kind under a key set, at a current time, whatever its audience.
 unfoldable prints : List ℕ → ℕ → List ℕ → Output
 unfolding unmet admitted claims_of claims_table members_table confirmation_of texts_from keys_of key_of key_table material_of message with_head with_string with_item bucket_of bucket_table check_pairs pair_faults chosen children_of items_from look head_of_item bare_head read head depth_of is_utf8 chars lib.Utf8.encode digits encode_with
-prints keys now input = admitted_under (checks_for keys [] wants.Tagged None) (program_policy (pos now) 0 None) (nothing now 0) false input
+prints keys now input = admitted_under (checks_for keys [] wants.Tagged None) (program_policy (pos now) 0 None) (nothing now 0) briefly input
 
 refused_keys : (now : ℕ) (input : List ℕ) → Prints (λ keys. prints keys now input) (
     ("", line "fault keys PastRoom at 0" statuses.Fault) ∷
@@ -188,13 +200,13 @@ found = record { key = record { kid = None; alg = None; operations = None; mater
 
 unfoldable said_in_input : ℕ → ℕ → Bool → Output
 unfolding said
-said_in_input now n holds = outcome_said false (token_told 8 n (program_policy (pos now) 0 None) (nothing now 0) (hex example)
+said_in_input now n holds = outcome_said briefly (token_told 8 n (program_policy (pos now) 0 None) (nothing now 0) (hex example)
     (verified [] (vouching None) (Some found) (if holds then decided (Authentic Mac0 Hmac256 80 123) else refused BadAuth 89)))
 
 -- For an authentic message with this payload; its claims nest at most 8 deep.
 unfoldable said_of_payload : List ℕ → Output
 unfolding said
-said_of_payload payload = outcome_said false (token_told 8 0 (program_policy (pos 0) 0 None) (nothing 0 0) payload (decided (Authentic Mac0 Hmac256 0 0)))
+said_of_payload payload = outcome_said briefly (token_told 8 0 (program_policy (pos 0) 0 None) (nothing 0 0) payload (decided (Authentic Mac0 Hmac256 0 0)))
 
 nested_claims : Prints said_of_payload (
     ("a10a8181818181818100", lines ("admitted" ∷ [])) ∷

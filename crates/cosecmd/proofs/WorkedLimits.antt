@@ -25,7 +25,7 @@ use Rattle.cosecmd.specs.declared.limits.Limits.TheVariants.{Small, Large}
 use Rattle.cosecmd.specs.declared.reply.Status.TheVariants as statuses
 use Rattle.cosecmd.specs.Printed.{Output, admitted_under, digested_under, shown, verified_under}
 use Rattle.cosecmd.proofs.WorkedAdmitted.{nothing}
-use Rattle.cosecmd.proofs.WorkedPrinted.{Prints, checks_within, hex, line, plain, plainly, point}
+use Rattle.cosecmd.proofs.WorkedPrinted.{Prints, briefly, checks_within, hex, line, plain, plainly, point}
 
 unfoldable prints : (List ℕ → Output) → List ℕ → Output
 unfolding keys_of key_of key_table material_of message with_head with_string with_item bucket_of bucket_table check_pairs pair_faults chosen children_of items_from look head_of_item bare_head read head depth_of is_utf8 chars lib.Utf8.encode digits
@@ -36,7 +36,7 @@ abbrev verifying : Limits → List ℕ → List ℕ → Output
 verifying limits keys = verified_under (checks_within limits keys [] wants.Tagged None) None
 
 abbrev admitting : Limits → List ℕ → Output
-admitting limits = admitted_under (checks_within limits plain [] wants.Tagged None) (program_policy (pos 0) 0 None) (nothing 0 0) false
+admitting limits = admitted_under (checks_within limits plain [] wants.Tagged None) (program_policy (pos 0) 0 None) (nothing 0 0) briefly
 
 -- A header bucket has at most 65,535 bytes and nests at most 16 deep.
 at_the_large_limits : Prints (prints (verifying Large plain)) (

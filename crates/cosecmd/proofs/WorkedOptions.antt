@@ -16,7 +16,7 @@ use Rattle.cosecmd.specs.Printed.{admitted_under, made_under, shown, verified_un
 use Rattle.cosecmd.specs.Requirements.{required_at}
 use Rattle.cosecmd.specs.Under.{Under, program_keys}
 use Rattle.cosecmd.specs.declared.limits.Limits.TheVariants.{Small, Large}
-use Rattle.cosecmd.proofs.WorkedPrinted.{plainly}
+use Rattle.cosecmd.proofs.WorkedPrinted.{briefly, plainly}
 
 -- An option with this argument; and one whose range has no negative number.
 abbrev pub given : Text → Text → Row
@@ -147,14 +147,19 @@ unfolding decode_pairs
 large_verify_line bytes = refl
 
 cwt_line : (bytes : List ℕ) → line_prints no_file (Some (codes "cwt", given (codes "keys") (codes "80") ∷ number (codes "now") (codes "9") ∷ number (codes "leeway") (codes "5") ∷ given (codes "aud") (codes "x") ∷ [])) bytes ≡
-    Some (admitted_under (no_keys None) (program_policy (pos 9) 5 (Some (120 ∷ []))) (required_at (pos 9) 5 [] None None None None None) false bytes)
+    Some (admitted_under (no_keys None) (program_policy (pos 9) 5 (Some (120 ∷ []))) (required_at (pos 9) 5 [] None None None None None) briefly bytes)
 unfolding decode_pairs
 cwt_line bytes = refl
 
 text_line : (bytes : List ℕ) → line_prints no_file (Some (codes "cwt", given (codes "keys") (codes "80") ∷ number (codes "now") (codes "9") ∷ number (codes "leeway") (codes "5") ∷ given (codes "text") (codes "true") ∷ [])) bytes ≡
-    Some (admitted_under (no_keys None) (program_policy (pos 9) 5 None) (required_at (pos 9) 5 [] None None None None None) true bytes)
+    Some (admitted_under (no_keys None) (program_policy (pos 9) 5 None) (required_at (pos 9) 5 [] None None None None None) (record briefly { readable = true }) bytes)
 unfolding decode_pairs
 text_line bytes = refl
+
+claims_line : (bytes : List ℕ) → line_prints no_file (Some (codes "cwt", given (codes "keys") (codes "80") ∷ number (codes "now") (codes "9") ∷ number (codes "leeway") (codes "5") ∷ given (codes "claims") (codes "all") ∷ [])) bytes ≡
+    Some (admitted_under (no_keys None) (program_policy (pos 9) 5 None) (required_at (pos 9) 5 [] None None None None None) (record briefly { others = true }) bytes)
+unfolding decode_pairs
+claims_line bytes = refl
 
 make_line : (bytes : List ℕ) → line_prints no_file (Some (codes "make", number (codes "alg") (codes "5") ∷ given (codes "key") (codes "a0") ∷ number (codes "length") (codes "2") ∷ given (codes "kid") (codes "0b") ∷ [])) bytes ≡
     Some (made_under (key_of (record { bytes = 160 ∷ []; place = 0 })) Hmac256 2 (Some (11 ∷ [])) [] bytes)

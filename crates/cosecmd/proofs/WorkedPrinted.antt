@@ -32,6 +32,7 @@ use Rattle.cose_msg.specs.Answer.{Chosen, decided, refused}
 use Rattle.cose_msg.specs.Message.{message, structure, verified}
 use Rattle.cose_msg.specs.Reading.{with_head, with_string, with_item}
 use Rattle.cosecmd.specs.declared.request.Details.{Details}
+use Rattle.cosecmd.specs.declared.request.Printing.{Printing}
 use Rattle.cosecmd.specs.Allowed.{unrestricted}
 use Rattle.cosecmd.specs.Limits.{room_of}
 use Rattle.cosecmd.specs.Under.{Under, program_keys}
@@ -62,6 +63,10 @@ any byte (suc n) = byte n ∷ any byte n
 -- What is printed of a message that is shown, in addition: nothing.
 abbrev pub plainly : Details
 plainly = record { diagnostic = false; detached = false; payload = false }
+
+-- Of claims their values alone, and of the registered ones alone.
+abbrev pub briefly : Printing
+briefly = record { readable = false; others = false }
 
 -- One line, and how the run ends.
 abbrev pub line : String → Status → Output

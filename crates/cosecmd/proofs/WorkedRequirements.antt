@@ -30,7 +30,7 @@ use Rattle.cosecmd.specs.Printed.{Output, outcome_said}
 use Rattle.cosecmd.specs.Requirements.{claims_named, present_in, required_at, requirements_in}
 use Rattle.cosecmd.proofs.WorkedAdmitted.{example, example_lines, nothing}
 use Rattle.cosecmd.proofs.WorkedOptions.{given, number}
-use Rattle.cosecmd.proofs.WorkedPrinted.{hex, line, Prints}
+use Rattle.cosecmd.proofs.WorkedPrinted.{briefly, hex, line, Prints}
 use Rattle.cosecmd.proofs.WorkedShown.{lines}
 use Rattle.hex.specs.Hex.{encode_with}
 
@@ -83,7 +83,7 @@ nothing_unmet now leeway claims = refl
 -- What is printed for the claims of an authentic message, whatever its audience.
 unfoldable asked : RequirementsValue → List ℕ → Output
 unfolding unmet admitted claims_of claims_table members_table confirmation_of texts_from key_of key_table material_of check_pairs children_of items_from look head_of_item bare_head read head depth_of is_utf8 chars lib.Utf8.encode digits encode_with
-asked r payload = outcome_said false (if_admitted r (of_claims (admitted_claims 8 (program_policy r.now r.leeway None) payload)))
+asked r payload = outcome_said briefly (if_admitted r (of_claims (admitted_claims 8 (program_policy r.now r.leeway None) payload)))
 
 abbrev unmet_line : String → Output
 unmet_line text = line text statuses.Refused
@@ -168,7 +168,7 @@ ages = refl
 -- What is required is looked at after the claims are admitted, and before a further byte.
 unfoldable said_in_input : RequirementsValue → ℕ → List ℕ → Output
 unfolding asked
-said_in_input r n payload = outcome_said false (token_told 8 n (program_policy r.now r.leeway None) r payload (decided (Authentic Mac0 Hmac256 0 9)))
+said_in_input r n payload = outcome_said briefly (token_told 8 n (program_policy r.now r.leeway None) r payload (decided (Authentic Mac0 Hmac256 0 9)))
 
 orders : (said_in_input (requiring (Exp ∷ [])) 9 (hex "a0") ≡ unmet_line "refused policy PresentExp at 0")
     × (said_in_input (requiring (Exp ∷ [])) 10 (hex "a0") ≡ unmet_line "refused policy PresentExp at 0")

@@ -1,10 +1,12 @@
 -- What the program prints of a token (RFC 8392 section 7.2), and how it ends: the claims that are admitted, or why there are none.
-use Rattle.std.specs.Prelude.{ℕ, ℤ, Bool, true, false, List, [], ◌∷◌, ◌++◌, length, map, Option, Some, None, Result, Ok, Err, option_map, codes, nat_lt, if◌then◌else◌}
+use Rattle.std.specs.Prelude.{ℕ, ℤ, Bool, true, false, List, [], ◌∷◌, ◌++◌, length, map, Option, Some, None, Result, Ok, Err, option_map, codes, filter, int_lt, nat_lt, not, pos, ◌&&◌, if◌then◌else◌}
 use Rattle.std.specs.List.{concat}
 use Rattle.std.specs.Fmt.{decimal, signed_decimal}
 use Rattle.cose_head.specs.declared.reason.Reason.TheVariants.{Trailing}
 use Rattle.cose_head.specs.declared.refusal.Refusal.{Refusal}
 use Rattle.cose_head.specs.Refusal.{refusal_text}
+use Rattle.cose_map.specs.Label.{LabelValue, number, words}
+use Rattle.cose_map.specs.Map.Pairs.{Pair}
 use Rattle.cose_map.specs.Key.Value.{KeyValue, MaterialValue, symmetric, elliptic, YValue, coordinate, sign}
 use Rattle.cose_msg.specs.declared.verdict.Stop.{Stop}
 use Rattle.cose_msg.specs.declared.verdict.Stop.TheVariants as causes
@@ -24,9 +26,11 @@ use Rattle.cose_cwt.specs.Claims.View.{claims_value}
 use Rattle.cose_cwt.specs.Confirmation.{ConfirmationValue}
 use Rattle.cose_cwt.specs.Requirements.{RequirementsValue, met}
 use Rattle.cose_cwt.specs.Token.{Outcome, of_claims, read_as, stop_in}
+use Rattle.cose_text.specs.Diagnostic.{diagnostic_of}
+use Rattle.cosecmd.specs.declared.request.Printing.{Printing}
 use Rattle.cosecmd.specs.declared.reply.Status.{Status}
 use Rattle.cosecmd.specs.declared.reply.Status.TheVariants as statuses
-use Rattle.cosecmd.specs.Readable.{date_notation, text_notation}
+use Rattle.cosecmd.specs.Readable.{date_notation, label_text, text_notation}
 use Rattle.cosecmd.specs.Requirements.{unmet_line}
 use Rattle.hex.specs.Hex.{encode_lower}
 
@@ -137,6 +141,24 @@ claims_lines readable claims =
     ++ where_present (bytes_line (codes "cti")) (cti_of claims)
     ++ where_present confirmation_lines claims.confirmation
 
+-- The other claims: those whose label is none of the registered ones, 1 to 7.
+abbrev pub is_registered : LabelValue → Bool
+is_registered (number n) = int_lt (pos 0) n && int_lt n (pos 8)
+is_registered (words name) = false
+
+abbrev pub is_other : Pair → Bool
+is_other pair = not (is_registered pair.name)
+
+-- The label and the value in diagnostic notation. In the order of the payload, where they are asked for.
+abbrev pub other_line : Pair → List ℕ
+other_line pair = codes "claim " ++ label_text pair.name ++ codes ": " ++ diagnostic_of pair.value ++ codes "\n"
+
+abbrev pub other_lines : List Pair → List ℕ
+other_lines pairs = concat (map other_line (filter is_other pairs))
+
+abbrev pub others_shown : Bool → List Pair → List ℕ
+others_shown asked pairs = if asked then other_lines pairs else []
+
 -- A refusal says whether it is of the message or of its claims, since their places are relative to different bytes.
 abbrev pub refused_line : List ℕ → Refusal → List ℕ
 refused_line part refusal = codes "refused " ++ part ++ codes " " ++ refusal_text refusal ++ codes "\n"
@@ -152,10 +174,10 @@ stop_status (stops.Message refusal) = statuses.Refused
 stop_status (stops.Claims refusal) = statuses.Refused
 stop_status (stops.Stopped stop) = statuses.Fault
 
-abbrev pub outcome_text : Bool → Admission → List ℕ
-outcome_text readable (Ok claims) = codes "admitted\n" ++ claims_lines readable claims
-outcome_text readable (Err (Cwt stop)) = stop_text stop
-outcome_text readable (Err (Unmet unmet)) = unmet_line unmet
+abbrev pub outcome_text : Printing → Admission → List ℕ
+outcome_text printing (Ok claims) = codes "admitted\n" ++ claims_lines printing.readable claims ++ others_shown printing.others claims.pairs
+outcome_text printing (Err (Cwt stop)) = stop_text stop
+outcome_text printing (Err (Unmet unmet)) = unmet_line unmet
 
 abbrev pub outcome_status : Admission → Status
 outcome_status (Ok claims) = statuses.Done

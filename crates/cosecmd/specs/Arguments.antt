@@ -15,7 +15,7 @@ use Rattle.cosecmd.specs.declared.request.Request.TheVariants as asks
 
 abbrev pub admits_for_words : Admits → Cwt → List ℕ → Output
 admits_for_words admits words bytes =
-    admits (under_of words.checks) (program_policy words.now words.leeway (option_map text_value words.aud)) (requirements_for words.now words.leeway words.required) words.readable bytes
+    admits (under_of words.checks) (program_policy words.now words.leeway (option_map text_value words.aud)) (requirements_for words.now words.leeway words.required) words.printing bytes
 
 abbrev pub admitted_for : Cwt → List ℕ → Output
 admitted_for words bytes = admits_for_words admitted_under words bytes

@@ -12,11 +12,12 @@ use Rattle.cose_map.specs.Key.{key_of}
 use Rattle.cose_msg.specs.Sink.{AppendsFront}
 use Rattle.cosecmd.specs.Admitted.{program_policy}
 use Rattle.cosecmd.specs.Faults.{WritesLine}
-use Rattle.cosecmd.specs.Options.{Options, ◌>>=◌, algorithm_in, bytes_in, details_in, flag_in, integer_in, key_in, key_set_in, kind_in, limits_in, message_in, number_in, optional_bytes_in, payload_in, text_in}
+use Rattle.cosecmd.specs.Options.{Options, ◌>>=◌, algorithm_in, bytes_in, details_in, flag_in, integer_in, key_in, key_set_in, kind_in, limits_in, message_in, number_in, optional_bytes_in, payload_in, printing_in, text_in}
 use Rattle.cosecmd.specs.Fields.{checks_in, digest_checks_in}
+use Rattle.cosecmd.specs.Headers.{labels_in}
 use Rattle.cosecmd.specs.InputForm.{input_bytes}
 use Rattle.cosecmd.specs.MakeStops.{StopsMaking}
-use Rattle.cosecmd.specs.Printed.{Admits, EndsWith, Fails, Output, admitted_under, digested_under, keys_said, made_under, shown, verified_under}
+use Rattle.cosecmd.specs.Printed.{Admits, EndsWith, Fails, Output, admitted_under, digested_under, keys_said, made_under, shown, verified_for}
 use Rattle.cosecmd.specs.Requirements.{requirements_in}
 use Rattle.cosecmd.specs.Sequence.{FailsInSequence, admitted_sequence, verified_sequence}
 use Rattle.cosecmd.specs.Arguments.{asked_for, is_sequence, makes, payload_for}
@@ -30,7 +31,7 @@ abbrev pub message_prints : (List ℕ → Option (List ℕ)) → Options → Lis
 message_prints content options bytes = do
   under ← checks_in content options
   payload ← payload_in content options
-  Some (verified_under under payload bytes)
+  Some (verified_for (labels_in options) under payload bytes)
 
 -- Each message of a sequence has its payload.
 abbrev pub sequence_prints : (List ℕ → Option (List ℕ)) → Options → List ℕ → Option Output
@@ -48,7 +49,7 @@ tokens_print admits content options bytes = do
   now ← integer_in (codes "now") options
   leeway ← number_in (codes "leeway") options
   requirements ← requirements_in now leeway options
-  Some (admits under (program_policy now leeway (text_in (codes "aud") options)) requirements (flag_in (codes "text") options) bytes)
+  Some (admits under (program_policy now leeway (text_in (codes "aud") options)) requirements (printing_in options) bytes)
 
 abbrev pub cwt_prints : (List ℕ → Option (List ℕ)) → Options → List ℕ → Option Output
 cwt_prints content options bytes =

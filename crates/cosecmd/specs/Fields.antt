@@ -3,7 +3,7 @@ use Rattle.std.specs.Prelude.{◌≡◌, ℕ, List, Option, Some, None, codes, o
 use Rattle.cose_map.specs.KeySet.{keys_of}
 use Rattle.cose_msg.specs.declared.context.Wanted.TheVariants as wants
 use Rattle.cose_cwt.specs.Claims.Audience.{text_value}
-use Rattle.cosecmd.specs.Options.{Options, ◌>>=◌, algorithm_in, bytes_in, flag_in, integer_in, key_in, key_set_in, kind_in, limits_in, message_in, number_in, optional_bytes_in, text_in}
+use Rattle.cosecmd.specs.Options.{Options, ◌>>=◌, algorithm_in, bytes_in, integer_in, key_in, key_set_in, kind_in, limits_in, message_in, number_in, optional_bytes_in, printing_in, text_in}
 use Rattle.cosecmd.specs.Allowed.{restrictions_in}
 use Rattle.cosecmd.specs.Limits.{room_of}
 use Rattle.cosecmd.specs.Printed.{ItemsPrint, keys_print}
@@ -54,7 +54,7 @@ pub record CwtFields (content : List ℕ → Option (List ℕ)) (options : Optio
   pub leeway : number_in (codes "leeway") options ≡ Some words.leeway
   pub aud : option_map text_value words.aud ≡ text_in (codes "aud") options
   pub required : RequiredFields options words.required
-  pub readable : words.readable ≡ flag_in (codes "text") options
+  pub printing : words.printing ≡ printing_in options
 
 pub record KeysFields (content : List ℕ → Option (List ℕ)) (options : Options) (words : Keys) : Type 0 where
   pub keys : IsListedAs content options words.keys.items

@@ -5,6 +5,7 @@ pub mod AskedKeys
 pub mod CommandLine
 pub mod Faults
 pub mod Fields
+pub mod Headers
 pub mod HostFile
 pub mod Input
 pub mod InputForm

@@ -12,6 +12,7 @@ use Rattle.cose_head.specs.Algorithm.{algorithm_numbered}
 use Rattle.cose_msg.specs.declared.context.Wanted.{Wanted}
 use Rattle.cose_msg.specs.declared.context.Wanted.TheVariants as wants
 use Rattle.cosecmd.specs.declared.request.Details.{Details}
+use Rattle.cosecmd.specs.declared.request.Printing.{Printing}
 use Rattle.cosecmd.specs.declared.limits.Limits.{Limits}
 use Rattle.cosecmd.specs.declared.limits.Limits.TheVariants as limits
 
@@ -94,6 +95,13 @@ details_in options = record {
   diagnostic = flag_in (codes "diagnostic") options;
   detached = flag_in (codes "detached") options;
   payload = flag_in (codes "with-payload") options;
+}
+
+-- How the claims of a token are printed: in quotes too, and all of them.
+abbrev pub printing_in : Options → Printing
+printing_in options = record {
+  readable = flag_in (codes "text") options;
+  others = bytes_eq (unwrap_or (text_in (codes "claims") options) []) (codes "all");
 }
 
 -- The kinds of messages that keys are listed for, where they are.

@@ -15,7 +15,7 @@ use Rattle.cosecmd.specs.InputForm.{input_bytes}
 use Rattle.cosecmd.specs.NewFile.{Made, Stands, content_of}
 use Rattle.cosecmd.specs.Options.{Options, text_in}
 use Rattle.cosecmd.specs.Payload.{detached_in}
-use Rattle.cosecmd.specs.Printed.{setting_under, verified_under}
+use Rattle.cosecmd.specs.Printed.{setting_under, verified_for}
 use Rattle.cosecmd.specs.Under.{Under, under_of}
 use Rattle.cosecmd.specs.Vouch.{vouching}
 use Rattle.cosecmd.specs.Arguments.{asked_for, is_sequence, makes, payload_for}
@@ -80,10 +80,10 @@ kept_under (asks.TokenSequence words) = None
 kept_under (asks.Keys words) = None
 kept_under (asks.Make words) = None
 
--- A request to verify a message under these checks, with this payload.
-pub record AsksToVerify (checks : Checks) (payload : Payload) (request : Request) : Type 0 where
+-- A request to verify a message under these checks, with this payload, and to print the header parameters of these labels.
+pub record AsksToVerify (labels : List (List ℕ)) (checks : Checks) (payload : Payload) (request : Request) : Type 0 where
   pub payload_is : (content : List ℕ → Option (List ℕ)) → payload_for content request ≡ detached_in content payload
-  pub asked : (detached : Option (List ℕ)) (bytes : List ℕ) → asked_for request detached bytes ≡ verified_under (under_of checks) detached bytes
+  pub asked : (detached : Option (List ℕ)) (bytes : List ℕ) → asked_for request detached bytes ≡ verified_for labels (under_of checks) detached bytes
   pub makes_none : makes request ≡ false
   pub one : is_sequence request ≡ false
   pub kept : (name : List ℕ) → new_file_for request ≡ Some name → kept_under request ≡ Some (under_of checks)

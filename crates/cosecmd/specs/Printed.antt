@@ -26,7 +26,7 @@ use Rattle.cose_msg.specs.declared.make.MakeFault.{MakeFault}
 use Rattle.cose_msg.specs.declared.make.MakeFault.TheVariants as makes
 use Rattle.cose_msg.specs.Make.{make_fault}
 use Rattle.cose_msg.specs.Making.{made, protected_made}
-use Rattle.cose_msg.specs.Message.{Decides, Setting, comparing, inspecting, message, secret_of, verdict_of}
+use Rattle.cose_msg.specs.Message.{Decides, Setting, comparing, inspecting, message, secret_of, verdict_of, verifying}
 use Rattle.cose_msg.specs.Source.{attached, detached}
 use Rattle.cose_msg.specs.Reading.{Reading}
 use Rattle.cose_msg.specs.Shown.{SignInput, sign_input_in}
@@ -36,10 +36,12 @@ use Rattle.cose_cwt.specs.Requirements.{RequirementsValue}
 use Rattle.cosecmd.specs.Admitted.{Admission, input_token, outcome_status, outcome_text}
 use Rattle.cosecmd.specs.AskedKeys.{asked}
 use Rattle.cosecmd.specs.Faults.{WritesLine}
+use Rattle.cosecmd.specs.Headers.{parameter_lines}
 use Rattle.cosecmd.specs.KeysListed.{set_status, set_text}
 use Rattle.cosecmd.specs.Limits.{room_of}
 use Rattle.cosecmd.specs.declared.fault.Fault.{Fault}
 use Rattle.cosecmd.specs.declared.request.Details.{Details}
+use Rattle.cosecmd.specs.declared.request.Printing.{Printing}
 use Rattle.cosecmd.specs.declared.request.Question.{Question}
 use Rattle.cosecmd.specs.declared.request.Question.TheVariants as questions
 use Rattle.cosecmd.specs.declared.limits.Limits.{Limits}
@@ -153,6 +155,37 @@ abbrev pub verified_under : Under → Option (List ℕ) → List ℕ → Output
 verified_under under payload bytes =
     with_keys under.keys (λ keys. output_of (input_answer under.room.header under.room.nesting (with_payload payload (setting_under under keys)) (vouching under.vouch) bytes))
 
+-- After the line of an authentic message, those of its header parameters whose labels are asked for. These are the pairs of its
+-- buckets. Of a message that is refused no parameter has a line.
+abbrev pub said_with : List (List ℕ) → Option (List Pair) → Option (List Pair) → Verdict → Output
+said_with labels protected unprotected (Authentic kind alg payload taken) = record {
+  text = verdict_line (Authentic kind alg payload taken) ++ codes "\n" ++ parameter_lines labels protected unprotected;
+  status = statuses.Done;
+}
+said_with labels protected unprotected (Refused refusal) = said_of (Refused refusal)
+
+abbrev pub output_with : List (List ℕ) → Option (List Pair) → Option (List Pair) → Answer → Output
+output_with labels protected unprotected (decided verdict) = said_with labels protected unprotected verdict
+output_with labels protected unprotected (complete whole) = none_said
+output_with labels protected unprotected (shaped kind payload auth taken) = none_said
+
+-- By the reading of an input of n bytes.
+abbrev pub headed_of : List (List ℕ) → ℕ → Reading → Output
+headed_of labels n reading = output_with labels reading.so_far.protected reading.so_far.unprotected (trailed n reading.answer)
+
+abbrev pub headed_in : List (List ℕ) → ℕ → ℕ → Setting → Decides → List ℕ → Output
+headed_in labels header nesting setting decides bytes = headed_of labels (length bytes) (message (verifying header nesting setting decides) bytes)
+
+-- With this detached payload, where there is one.
+abbrev pub headed_under : List (List ℕ) → Under → Option (List ℕ) → List ℕ → Output
+headed_under labels under payload bytes =
+    with_keys under.keys (λ keys. headed_in labels under.room.header under.room.nesting (with_payload payload (setting_under under keys)) (vouching under.vouch) bytes)
+
+-- Where no label is asked for, the verdict alone.
+abbrev pub verified_for : List (List ℕ) → Under → Option (List ℕ) → List ℕ → Output
+verified_for [] under payload bytes = verified_under under payload bytes
+verified_for (label ∷ labels) under payload bytes = headed_under (label ∷ labels) under payload bytes
+
 -- A token is verified as a message is, with a payload of at most this many bytes.
 abbrev pub token_setting : ℕ → List KeyValue → List ℕ → Wanted → Setting
 token_setting claims keys aad wanted = record (program_setting keys aad wanted) { payload_limit = claims }
@@ -162,17 +195,17 @@ abbrev pub token_under : Under → PolicyValue → RequirementsValue → List �
 token_under under policy requirements bytes keys =
     input_token under.room.header under.room.nesting (token_setting under.room.claims keys under.aad under.wanted) (vouching under.vouch) policy requirements bytes
 
-abbrev pub outcome_said : Bool → Admission → Output
-outcome_said readable outcome = record { text = outcome_text readable outcome; status = outcome_status outcome }
+abbrev pub outcome_said : Printing → Admission → Output
+outcome_said printing outcome = record { text = outcome_text printing outcome; status = outcome_status outcome }
 
-abbrev pub admitted_under : Under → PolicyValue → RequirementsValue → Bool → List ℕ → Output
-admitted_under under policy requirements readable bytes =
-    with_keys under.keys (λ keys. outcome_said readable (token_under under policy requirements bytes keys))
+abbrev pub admitted_under : Under → PolicyValue → RequirementsValue → Printing → List ℕ → Output
+admitted_under under policy requirements printing bytes =
+    with_keys under.keys (λ keys. outcome_said printing (token_under under policy requirements bytes keys))
 
--- What `cwt` prints for an input: under these checks, by this policy, with what is required beyond it, and whether texts are
--- printed in quotes too. It is that of the one token that the input is, or of each of a sequence.
+-- What `cwt` prints for an input: under these checks, by this policy, with what is required beyond it, and how claims are
+-- printed. It is that of the one token that the input is, or of each of a sequence.
 abbrev pub Admits : Type 0
-Admits = Under → PolicyValue → RequirementsValue → Bool → List ℕ → Output
+Admits = Under → PolicyValue → RequirementsValue → Printing → List ℕ → Output
 
 -- The shape of a message: its kind, and the numbers of bytes of its payload, of its tag or signature, and of the whole.
 abbrev pub shape_line : Kind → ℕ → ℕ → ℕ → List ℕ
@@ -270,23 +303,20 @@ abbrev pub digested_under : Under → Option (List ℕ) → List ℕ → Output
 digested_under under payload bytes = with_keys under.keys (λ keys. digested_in under.room.header under.room.nesting (with_payload payload (setting_under under keys)) bytes)
 
 -- What is printed by what is asked of a message.
-abbrev pub by_question : Question → Output → Output → Output
-by_question questions.Verdict verdict digest = verdict
-by_question questions.Digest verdict digest = digest
+abbrev pub by_question : Question → Output → Output → (List (List ℕ) → Output) → Output
+by_question questions.Verdict verdict digest headed = verdict
+by_question questions.Digest verdict digest headed = digest
+by_question (questions.Headers labels) verdict digest headed = headed (map string_bytes labels.items)
 
 abbrev pub answered_in : Question → ℕ → ℕ → Setting → Decides → List ℕ → Output
 answered_in question header nesting setting decides bytes =
     by_question question (output_of (input_answer header nesting setting decides bytes)) (digested_in header nesting setting bytes)
+    (λ labels. headed_in labels header nesting setting decides bytes)
 
 -- With this detached payload, where there is one.
 abbrev pub answered_under : Question → Under → Option (List ℕ) → List ℕ → Output
 answered_under question under payload bytes =
     with_keys under.keys (λ keys. answered_in question under.room.header under.room.nesting (with_payload payload (setting_under under keys)) (vouching under.vouch) bytes)
-
--- The signature that is asked for. Where the verdict is asked for there is none.
-abbrev pub signature_asked : Question → Option SignInput → Option SignInput
-signature_asked questions.Verdict input = None
-signature_asked questions.Digest input = input
 
 -- The output after a message that ends at this place, of which a signature was found, or this verdict, where these bytes
 -- are left of the input.
@@ -294,6 +324,13 @@ abbrev pub digested_before : List ℕ → Option SignInput → ℕ → Verdict �
 digested_before rest None taken verdict = said_of (followed_by rest verdict)
 digested_before [] (Some input) taken verdict = vouched (vouch_word input)
 digested_before (byte ∷ rest) (Some input) taken verdict = said_of (Refused (record { reason = Trailing; place = taken }))
+
+-- The output by what is asked, where these are the pairs of the message's buckets.
+abbrev pub said_before : Question → List ℕ → Option SignInput → ℕ → Option (List Pair) → Option (List Pair) → Verdict → Output
+said_before questions.Verdict rest input taken protected unprotected verdict = said_of (followed_by rest verdict)
+said_before questions.Digest rest input taken protected unprotected verdict = digested_before rest input taken verdict
+said_before (questions.Headers labels) rest input taken protected unprotected verdict =
+    said_with (map string_bytes labels.items) protected unprotected (followed_by rest verdict)
 
 -- A message that isn't made.
 abbrev pub fault_of_key : Refusal → Output

@@ -1,14 +1,21 @@
 -- What people read in addition to the bytes, where they ask for it: an item in diagnostic notation (RFC 8949 section 8), a text
 -- in quotes, a date (RFC 3339).
 use Rattle.std.specs.Prelude.{ℕ, ℤ, Bool, List, [], ◌++◌, Option, Some, None, Result, Ok, Err, codes, if◌then◌else◌}
+use Rattle.std.specs.Fmt.{signed_decimal}
 use Rattle.cose_head.specs.declared.refusal.Refusal.{Refusal}
 use Rattle.cose_head.specs.Placed.{Placed}
 use Rattle.cose_head.specs.Refusal.{refusal_text}
 use Rattle.cose_head.specs.Whole.{whole}
+use Rattle.cose_map.specs.Label.{LabelValue, number, words}
 use Rattle.cose_text.specs.declared.date.Date.{Date}
 use Rattle.cose_text.specs.Date.{date_of, date_text}
 use Rattle.cose_text.specs.Diagnostic.{bytes_text, diagnostic_of}
 use Rattle.cose_text.specs.Quoted.{quoted}
+
+-- A label in diagnostic notation: an integer in decimal, a text in quotes.
+abbrev pub label_text : LabelValue → List ℕ
+label_text (number z) = signed_decimal z
+label_text (words content) = quoted content
 
 -- A pair after its bytes: the label and the value.
 abbrev pub pair_notation : Bool → Placed → Placed → List ℕ

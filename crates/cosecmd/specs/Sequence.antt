@@ -13,6 +13,7 @@ use Rattle.cose_msg.specs.Reading.{Reading}
 use Rattle.cose_msg.specs.Sink.{AppendsFront}
 use Rattle.cosecmd.specs.Faults.{WritesLine, fault_text}
 use Rattle.cosecmd.specs.declared.fault.Fault.{Fault}
+use Rattle.cosecmd.specs.declared.request.Printing.{Printing}
 use Rattle.cosecmd.specs.declared.reply.Status.{Status}
 use Rattle.cosecmd.specs.declared.reply.Status.TheVariants as statuses
 use Rattle.cosecmd.specs.Printed.{Output, Prints, admitted_under, setting_under, token_setting, verified_under, with_keys}
@@ -110,9 +111,9 @@ verified_sequence under bytes =
     with_keys under.keys (λ keys. sequence_said (read_as under.room.header under.room.nesting (setting_under under keys) (vouching under.vouch)) (verified_under under None) bytes)
 
 -- Its tokens.
-abbrev pub admitted_sequence : Under → PolicyValue → RequirementsValue → Bool → List ℕ → Output
-admitted_sequence under policy requirements readable bytes =
-    with_keys under.keys (λ keys. sequence_said (read_as under.room.header under.room.nesting (token_setting under.room.claims keys under.aad under.wanted) (vouching under.vouch)) (admitted_under under policy requirements readable) bytes)
+abbrev pub admitted_sequence : Under → PolicyValue → RequirementsValue → Printing → List ℕ → Output
+admitted_sequence under policy requirements printing bytes =
+    with_keys under.keys (λ keys. sequence_said (read_as under.room.header under.room.nesting (token_setting under.room.claims keys under.aad under.wanted) (vouching under.vouch)) (admitted_under under policy requirements printing) bytes)
 
 -- What a run over a sequence has written that ends with status Fault: the line of a fault, perhaps after all that is printed for
 -- a prefix of the input; or a prefix of that, where the output fails.

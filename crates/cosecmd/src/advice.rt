@@ -42,6 +42,11 @@ const KEYS_FILE: &str =
 const KEY_FILE: &str =
     "`make` takes --key or --key-file, which has one key; --keys and --keys-file are options of other commands";
 
+/// What is said of an argument that is no label.
+const LABEL: &str =
+    "--header takes a label: an integer from -2^63 to 2^63 - 1, or a text; one that begins as a \
+number or with a quote is in quotes, as `show --diagnostic` writes it";
+
 /// Whether some bytes are among these.
 fn contains(bytes: &[u8], wanted: &[u8]) -> bool {
     for start in 0..bytes.len() {
@@ -160,6 +165,9 @@ impl<'a> Ended<'a> {
     fn of_arguments(&self) -> Option<&'static str> {
         if self.printed.starts_with("fault file ".as_bytes()) && self.has_argument("-") {
             return Some(DASH);
+        }
+        if self.has_printed("fault line ", "header") {
+            return Some(LABEL);
         }
         if !self.printed.starts_with("error: ".as_bytes()) {
             return None;

@@ -11,6 +11,7 @@ ghost use Rattle.cosecmd.specs.Under.{Under};
 
 mod checks;
 mod cwt;
+mod headers;
 mod keys;
 mod make;
 mod message;
@@ -119,7 +120,7 @@ pub fn answer<F: NamedFiles, N: NewFiles, R: Read, W: Write>(
             checks,
             payload,
         } => {
-            let reply = message_reply(alloc, files, *question, checks, payload, input);
+            let reply = message_reply(alloc, files, question, checks, payload, input);
             end_with(alloc, reply, output)
         }
         Request::Keep { checks, name } => {

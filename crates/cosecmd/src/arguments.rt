@@ -1,12 +1,12 @@
 //! The arguments of the command line.
 
-ghost use Rattle.std.specs.Prelude.{◌≡◌, ◌≢◌, ◌≤◌, ◌⊎◌, ℕ, true, false, List, Option, Some, None, IfErr, IfOk, codes, length as length_in, map, option_map, string_bytes};
+ghost use Rattle.std.specs.Prelude.{◌≡◌, ◌≢◌, ◌≤◌, ◌⊎◌, ℕ, true, false, List, [], Option, Some, None, IfErr, IfOk, codes, length as length_in, map, option_map, string_bytes};
 ghost use Rattle.clap.specs.Matches.{first_value, found_of, subcommand_name_of};
 ghost use Rattle.clap.specs.Simple.{subcommand_rows_of};
 ghost use Rattle.cose_cwt.specs.Claims.Audience.{text_value};
 ghost use Rattle.cosecmd.specs.CommandLine.{AsksFor, IsReadFrom, ask_for_help, begins_as_answer, cwt_prints, digest_prints, is_for_help as is_for_help_in, is_of_sequence, matches_print, message_prints, payload_named, sequence_prints, verify_payload, verify_prints};
 ghost use Rattle.cosecmd.specs.Fields.{AreChecks, CwtFields, HasKeysOf, IsKeyOf, IsListedAs, KeysFields, MakeFields, checks_in, digest_checks_in};
-ghost use Rattle.cosecmd.specs.Options.{algorithm_in, bytes_in, details_in, flag_in, hex_bytes, integer_in, kind_in, kind_named, limits_in, limits_named, message_in, number_in, optional_bytes_in, options_of, payload_in, text_in};
+ghost use Rattle.cosecmd.specs.Options.{algorithm_in, bytes_in, details_in, flag_in, hex_bytes, integer_in, kind_in, kind_named, limits_in, limits_named, message_in, number_in, optional_bytes_in, options_of, payload_in, printing_in, text_in};
 ghost use Rattle.cosecmd.specs.Payload.{IsFile, detached_in};
 ghost use Rattle.cosecmd.specs.PayloadTo.{AsksToVerify, KeepsUnder, checks_named, new_file_for, new_file_of};
 ghost use Rattle.cosecmd.specs.Printed.{Output};
@@ -16,10 +16,11 @@ use crate::allowed::allowed_of;
 use crate::commands::line;
 use crate::fault::Fault;
 use crate::files::{NamedFiles, key_bytes, key_set_bytes};
+use crate::labels::labels_of;
 use crate::limits::Limits;
 use crate::mistake::mistake;
 use crate::reply::{Reply, Status};
-use crate::request::{Checks, Cwt, Details, Keys, Make, Payload, Question, Request};
+use crate::request::{Checks, Cwt, Details, Keys, Make, Payload, Printing, Question, Request};
 use crate::requirements::required_of;
 use clap::ArgMatches;
 use clap::error::ErrorKind;
@@ -356,6 +357,16 @@ fn checks_of<F: NamedFiles>(alloc: Global, files: &F, matches: &ArgMatches) -> R
     })
 }
 
+/// How the arguments say that claims are printed.
+fn printing_of(matches: &ArgMatches) -> Printing
+    ensures { result ≡ printing_in (options_of matches.now) }
+{
+    Printing {
+        readable: flag_of(matches, "text"),
+        others: text_of(matches, "claims").unwrap_or("") == "all",
+    }
+}
+
 /// The arguments of `cwt`, in the order in which help lists them.
 fn cwt_of<'a, F: NamedFiles>(
     alloc: Global,
@@ -369,14 +380,14 @@ fn cwt_of<'a, F: NamedFiles>(
     let leeway = leeway_of(matches)?;
     let aud = text_of(matches, "aud");
     let required = required_of(alloc, matches)?;
-    let readable = flag_of(matches, "text");
+    let printing = printing_of(matches);
     Ok(Cwt {
         checks,
         now,
         leeway,
         aud,
         required,
-        readable,
+        printing,
     })
 }
 
@@ -442,7 +453,7 @@ fn make_of<F: NamedFiles>(alloc: Global, files: &F, matches: &ArgMatches) -> Res
 
 /// To verify under these checks a message that has its payload, and to keep this in a new file of this name.
 fn keep_request<'a>(checks: Checks, payload: &Payload, name: &'a str) -> Result<Request<'a>, Fault>
-    ensures asks { IfOk result (AsksToVerify checks payload.entry.now) }
+    ensures asks { IfOk result (AsksToVerify [] checks payload.entry.now) }
     ensures keeps { IfOk result (λ request. new_file_for request ≡ Some name.entry.now) }
 {
     match payload {
@@ -459,7 +470,7 @@ fn verify_or_keep<'a>(
     payload: Payload<'a>,
     name: Option<&'a str>,
 ) -> Result<Request<'a>, Fault>
-    ensures asks { IfOk result (AsksToVerify checks payload.entry) }
+    ensures asks { IfOk result (AsksToVerify [] checks payload.entry) }
     ensures keeps { IfOk result (λ request. new_file_for request
         ≡ option_map text_value name.entry) }
 {
@@ -473,7 +484,36 @@ fn verify_or_keep<'a>(
     }
 }
 
-/// What the arguments of `verify` ask for, where the input is one message. The payload goes last, as help lists it.
+/// To verify under these checks, with this payload, and to print the header parameters of these
+/// labels. A payload that is to be kept goes with none.
+fn verify_for<'a>(
+    checks: Checks,
+    payload: Payload<'a>,
+    labels: Vec<String>,
+    name: Option<&'a str>,
+) -> Result<Request<'a>, Fault>
+    ensures asks { IfOk result
+        (AsksToVerify (map string_bytes labels.items) checks payload.entry) }
+    ensures keeps { IfOk result (λ request. new_file_for request
+        ≡ option_map text_value name.entry) }
+{
+    let named = labels.as_slice();
+    if named.is_empty() {
+        return verify_or_keep(checks, payload, name);
+    }
+    match name {
+        // clap refuses the options together.
+        Some(_) => Err(Fault::Line("payload-to")),
+        None => Ok(Request::Message {
+            question: Question::Headers(labels),
+            checks,
+            payload,
+        }),
+    }
+}
+
+/// What the arguments of `verify` ask for, where the input is one message, in the order in which help
+/// lists them.
 fn message_request<'a, F: NamedFiles>(
     alloc: Global,
     files: &F,
@@ -494,7 +534,8 @@ fn message_request<'a, F: NamedFiles>(
 {
     let checks = checks_of(alloc, files, matches)?;
     let payload = payload_of(alloc, matches)?;
-    verify_or_keep(checks, payload, text_of(matches, "payload-to"))
+    let labels = labels_of(alloc, matches)?;
+    verify_for(checks, payload, labels, text_of(matches, "payload-to"))
 }
 
 /// What the arguments of `verify` ask for, where the input is a sequence.

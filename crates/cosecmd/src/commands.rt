@@ -71,6 +71,9 @@ const KINDS: &[&str] = &["mac0", "sign1", "tagged"];
 /// The values of `--require`, the registered claims (RFC 8392 section 3.1).
 const CLAIMS: &[&str] = &["iss", "sub", "aud", "exp", "nbf", "iat", "cti"];
 
+/// The values of `--claims`.
+const SHOWN: &[&str] = &["all"];
+
 /// The values of `--input`.
 const FORMS: &[&str] = &["cbor", "hex", "base64url", "auto"];
 
@@ -89,6 +92,10 @@ enum Value {
     Kind,
     /// The name of a claim. The option may be there several times.
     Claim,
+    /// A label, which is read later. The option may be there several times.
+    Label,
+    /// Which claims are printed.
+    Shown,
     /// How the input is written.
     Form,
     /// The limits of a run.
@@ -318,6 +325,15 @@ const PAYLOAD_TO: CommandOption = CommandOption {
     help: "The new file, mode 0600, that gets the payload of an authentic message; a name that exists is a fault",
 };
 
+/// A header parameter that is printed.
+const HEADER: CommandOption = CommandOption {
+    name: "header",
+    argument: "LABEL",
+    value: Value::Label,
+    presence: Presence::Without(&["payload-to", "sequence"]),
+    help: "A header parameter that is printed after the line of an authentic message, by its label: an integer, or a text, in quotes where it begins as a number or with a quote; the option may be there several times",
+};
+
 /// Each token of a sequence.
 const TOKENS: CommandOption = CommandOption {
     name: "sequence",
@@ -426,6 +442,15 @@ const TEXT: CommandOption = CommandOption {
     help: "Print iss, sub and aud in quotes too, and dates as RFC 3339 has them, after the value",
 };
 
+/// The claims that are printed.
+const SHOWN_CLAIMS: CommandOption = CommandOption {
+    name: "claims",
+    argument: "WHICH",
+    value: Value::Shown,
+    presence: Presence::Optional,
+    help: "Print the other claims too, in diagnostic notation (RFC 8949 section 8), in the order of the payload",
+};
+
 /// The algorithm.
 const ALG: CommandOption = CommandOption {
     name: "alg",
@@ -519,6 +544,7 @@ const MESSAGE_COMMANDS: &[Subcommand] = &[
             PAYLOAD_FILE,
             PAYLOAD_LENGTH,
             PAYLOAD_TO,
+            HEADER,
             SEQUENCE,
             INPUT,
             LIMITS,
@@ -551,6 +577,7 @@ const TOKEN_COMMANDS: &[Subcommand] = &[
             MAX_LIFETIME,
             MAX_AGE,
             TEXT,
+            SHOWN_CLAIMS,
             TOKENS,
             INPUT,
             LIMITS,
@@ -606,6 +633,8 @@ impl Value {
             Value::Text | Value::Flag => arg,
             Value::Kind => arg.value_parser(KINDS),
             Value::Claim => arg.value_parser(CLAIMS).action(ArgAction::Append),
+            Value::Label => arg.action(ArgAction::Append),
+            Value::Shown => arg.value_parser(SHOWN),
             Value::Form => arg.value_parser(FORMS),
             Value::Limits => arg.value_parser(LIMITS_NAMED),
             Value::Time => arg.value_parser(value_parser!(i64).range(0..)),

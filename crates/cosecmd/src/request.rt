@@ -19,12 +19,15 @@ pub struct Details {
 }
 
 /// What is asked of a message, whose payload may be elsewhere.
-#[derive(Clone, Copy)]
+#[derive(Drop)]
 pub enum Question {
     /// Its verdict: the command `verify`.
     Verdict,
     /// What its signature has to be verified with: the command `digest`.
     Digest,
+    /// Its verdict, and of an authentic message the header parameters whose labels these are, in
+    /// diagnostic notation: the command `verify` with `--header`.
+    Headers(Vec<String>),
 }
 
 /// What a message is verified under.
@@ -45,6 +48,15 @@ pub struct Checks {
     ghost external: { length_of aad.items ≤ 65535 },
 }
 
+/// How the claims of a token are printed.
+#[derive(Clone, Copy)]
+pub struct Printing {
+    /// Whether texts are printed in quotes too, and dates as RFC 3339 has them.
+    pub readable: bool,
+    /// Whether claims are printed too that aren't registered, in diagnostic notation.
+    pub others: bool,
+}
+
 /// What a token is admitted under, or each of a sequence, and how its claims are printed.
 #[derive(Drop)]
 pub struct Cwt<'w> {
@@ -58,8 +70,8 @@ pub struct Cwt<'w> {
     pub aud: Option<&'w str>,
     /// What is required of the claims beyond their admission.
     pub required: Required<'w>,
-    /// Whether texts are printed in quotes too, and dates as RFC 3339 has them.
-    pub readable: bool,
+    /// How its claims are printed.
+    pub printing: Printing,
 }
 
 /// The key set whose items are listed.

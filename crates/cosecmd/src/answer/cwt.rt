@@ -1,9 +1,12 @@
 //! The lines of the command `cwt`: the claims of a token, where they are admitted.
 
-ghost use Rattle.std.specs.Prelude.{◌≡◌, ◌≢◌, ◌≤◌, ◌↔◌, ◌++◌, ◌||◌, ℕ, true, false, List, [], Some, None, Ok, Err, IfErr, IfOk, codes, is_some, length, map, option_map, string_bytes};
+ghost use Rattle.std.specs.Prelude.{◌≡◌, ◌≢◌, ◌≤◌, ◌↔◌, ◌++◌, ◌||◌, ℕ, true, false, List, [], Some, None, Ok, Err, IfErr, IfOk, codes, is_some, length, map, not, option_map, string_bytes};
 ghost use Rattle.std.specs.List.{concat};
 ghost use Rattle.cose_head.specs.declared.refusal.Refusal.{Refusal};
+ghost use Rattle.cose_head.specs.ItemRef.{placed};
 ghost use Rattle.cose_map.specs.Key.View.{contents, key_value};
+ghost use Rattle.cose_map.specs.Label.View.{label_value};
+ghost use Rattle.cose_map.specs.Map.View.{pairs_left};
 ghost use Rattle.cose_msg.specs.Kept.{HasTaken, bytes_taken, is_inspecting};
 ghost use Rattle.cose_msg.specs.Message.{Setting};
 ghost use Rattle.cose_msg.specs.Task.{to_verify};
@@ -13,12 +16,13 @@ ghost use Rattle.cose_cwt.specs.Claims.Audience.{text_value, texts_left};
 ghost use Rattle.cose_cwt.specs.Claims.View.{claims_value};
 ghost use Rattle.cose_cwt.specs.Confirmation.View.{cnf_value};
 ghost use Rattle.cose_cwt.specs.Requirements.View.{requirements_value};
-ghost use Rattle.cosecmd.specs.Admitted.{admission_seen, bytes_line, claims_lines, confirmation_lines, date_line, input_token, key_line, or_trailing, program_policy, refused_line, required_then, stopped_in, text_line, where_present};
+ghost use Rattle.cosecmd.specs.Admitted.{admission_seen, bytes_line, claims_lines, confirmation_lines, date_line, input_token, is_registered, key_line, or_trailing, other_lines, others_shown, program_policy, refused_line, required_then, stopped_in, text_line, where_present};
 ghost use Rattle.cosecmd.specs.Arguments.{admitted_for};
 ghost use Rattle.cosecmd.specs.Faults.{FailsForKeys, fails_by_input};
 ghost use Rattle.cosecmd.specs.Limits.{AreSizesUnder, room_of};
 ghost use Rattle.cosecmd.specs.Printed.{Says, admitted_under, outcome_said, token_setting, trailing_refusal};
-ghost use Rattle.cosecmd.specs.Readable.{date_notation, text_notation};
+ghost use Rattle.cose_text.specs.Diagnostic.{diagnostic_of};
+ghost use Rattle.cosecmd.specs.Readable.{date_notation, label_text as label_text_of, text_notation};
 ghost use Rattle.cosecmd.specs.Replies.{RepliesTo};
 ghost use Rattle.cosecmd.specs.Under.{under_of};
 ghost use Rattle.cosecmd.specs.Vouch.{vouching};
@@ -30,18 +34,19 @@ use crate::limits::{
     LARGE_CLAIMS, LARGE_HEADER, LARGE_KEYS, LARGE_NESTING, Limits, SMALL_CLAIMS, SMALL_HEADER,
     SMALL_KEYS, SMALL_NESTING,
 };
+use crate::notation::label_text;
 use crate::reply::{Reply, Status};
-use crate::request::{Checks, Cwt};
+use crate::request::{Checks, Cwt, Printing};
 use crate::requirements::requirements_of;
 use crate::vouch::Vouch;
 use cose_cwt::{Audience, Auds, Claims, Cnf, CwtStop, Policy, Requirements, TokenStop, verify_cwt};
-use cose_map::{Material, Y};
+use cose_map::{ItemRef, Label, Material, Pairs, Y};
 use cose_msg::laws::settled_stays;
 use cose_msg::{
     Context, Intake, Key, KeyTable, Keys, ReadIntake, Refusal, Stop, Store, Verifier, Wanted,
 };
-use cose_text::{Date, push_quoted};
-use std::alloc::Global;
+use cose_text::{Date, push_diagnostic, push_quoted};
+use std::alloc::{AllocError, Global};
 use std::io::Read;
 use std::slice;
 
@@ -244,6 +249,62 @@ fn push_claims(
     Ok(())
 }
 
+/// Whether a label is none of the registered ones (RFC 8392 section 3.1).
+fn is_other(label: &Label) -> bool
+    ensures { result ≡ not (is_registered (label_value label.now)) }
+{
+    match *label {
+        Label::Int(number) => number <= 0 || number >= 8,
+        Label::Text(_) => true,
+    }
+}
+
+/// Appends the line of a claim: its label and its value in diagnostic notation.
+fn push_other(
+    alloc: Global,
+    lines: &mut String,
+    label: &Label,
+    value: &ItemRef,
+) -> Result<(), AllocError>
+    ensures { IfOk result (λ _. string_bytes lines.new ≡ string_bytes lines.old ++ codes "claim "
+        ++ label_text_of (label_value label.now) ++ codes ": " ++ diagnostic_of (placed value.now)
+        ++ codes "\n") }
+{
+    let label = label_text(alloc, label)?;
+    lines.push_str("claim ")?;
+    lines.push_str(label.as_str())?;
+    lines.push_str(": ")?;
+    push_diagnostic(alloc, lines, value)?;
+    lines.push_str("\n")?;
+    Ok(())
+}
+
+/// Appends the lines of the claims that aren't registered, in the order of the payload.
+fn push_each_other(alloc: Global, lines: &mut String, claims: Pairs) -> Result<(), AllocError>
+    ensures { IfOk result (λ _. string_bytes lines.new
+        ≡ string_bytes lines.old ++ other_lines (pairs_left claims.entry)) }
+{
+    'claims: for (label, _item, value) in claims {
+        if is_other(&label) {
+            push_other(alloc, lines, &label, &value)?;
+        }
+    }
+    Ok(())
+}
+
+/// The same, where they are asked for.
+fn push_others(alloc: Global, lines: &mut String, claims: Pairs, asked: bool) -> Result<(), Fault>
+    ensures lines { IfOk result (λ _. string_bytes lines.new
+        ≡ string_bytes lines.old ++ others_shown asked (pairs_left claims.entry)) }
+    ensures fault { IfErr result (λ fault. fault ≡ Fault.Memory) }
+{
+    if !asked {
+        return Ok(());
+    }
+    push_each_other(alloc, lines, claims)?;
+    Ok(())
+}
+
 /// The line of a refused message, or of refused claims.
 fn refused_reply(alloc: Global, part: &str, refusal: Refusal) -> Result<Reply, Fault>
     ensures text { IfOk result (λ reply. string_bytes reply.text ≡ refused_line part.now refusal) }
@@ -259,9 +320,9 @@ fn refused_reply(alloc: Global, part: &str, refusal: Refusal) -> Result<Reply, F
 pub fn token_reply(
     alloc: Global,
     token: Result<Claims, TokenStop>,
-    readable: bool,
+    printing: Printing,
 ) -> Result<Reply, Fault>
-    ensures says { IfOk result (Says (outcome_said readable (admission_seen token.entry))) }
+    ensures says { IfOk result (Says (outcome_said printing (admission_seen token.entry))) }
     ensures unstopped { IfOk result (λ _. stopped_in (admission_seen token.entry) ≡ None) }
     ensures input { fails_by_input result ≡ is_some (stopped_in (admission_seen token.entry)) }
     ensures fault { (refusal : Refusal) → result ≢ Err (Fault.Keys refusal) }
@@ -270,7 +331,8 @@ pub fn token_reply(
         Ok(claims) => {
             let status = Status::Done;
             let mut text = format!(in alloc; "admitted\n")?;
-            push_claims(alloc, &mut text, &claims, readable)?;
+            push_claims(alloc, &mut text, &claims, printing.readable)?;
+            push_others(alloc, &mut text, claims.pairs(), printing.others)?;
             Ok(Reply { status, text })
         }
         Err(TokenStop::Cwt(CwtStop::Message(refusal))) => refused_reply(alloc, "message", refusal),
@@ -379,7 +441,7 @@ fn admitted_reply<const H: usize, const D: usize, const N: usize, const L: usize
     checks: &Checks,
     policy: &Policy,
     requirements: &Requirements,
-    readable: bool,
+    printing: Printing,
     intake: &mut I,
 ) -> Result<Reply, Fault>
     requires some_room { 16 ≤ H }
@@ -393,7 +455,7 @@ fn admitted_reply<const H: usize, const D: usize, const N: usize, const L: usize
     requires claims { (room_of checks.now.limits).claims ≡ L }
     ensures says { (bytes : List ℕ) → I.to_come intake.old ≡ Some bytes →
         IfOk result (Says (admitted_under (under_of checks.now) (policy_value policy.entry.now)
-        (requirements_value requirements.entry.now) readable bytes)) }
+        (requirements_value requirements.entry.now) printing bytes)) }
     ensures keys { (refusal : Refusal)
         → (under_of checks.now).keys ≡ Err refusal ↔ result ≡ Err (Fault.Keys refusal) }
     // Its fault is that the input failed exactly where the intake failed in this call.
@@ -415,7 +477,7 @@ fn admitted_reply<const H: usize, const D: usize, const N: usize, const L: usize
         policy,
         requirements,
     );
-    token_reply(alloc, token, readable)
+    token_reply(alloc, token, printing)
 }
 
 /// The reply to the one token that the input is.
@@ -426,17 +488,17 @@ pub fn cwt_reply<R: Read>(alloc: Global, words: &Cwt, input: &mut R) -> Result<R
     let checks = &words.checks;
     let policy = &policy_of(words.now, words.leeway, &words.aud);
     let required = &requirements_of(&words.required, words.now, words.leeway);
-    let readable = words.readable;
+    let printing = words.printing;
     let intake = &mut ReadIntake::new(input);
     match checks.limits {
         Limits::Small => {
             admitted_reply::<SMALL_HEADER, SMALL_NESTING, SMALL_KEYS, SMALL_CLAIMS, _>(
-                alloc, checks, policy, required, readable, intake,
+                alloc, checks, policy, required, printing, intake,
             )
         }
         Limits::Large => {
             admitted_reply::<LARGE_HEADER, LARGE_NESTING, LARGE_KEYS, LARGE_CLAIMS, _>(
-                alloc, checks, policy, required, readable, intake,
+                alloc, checks, policy, required, printing, intake,
             )
         }
     }

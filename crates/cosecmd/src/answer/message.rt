@@ -1,20 +1,21 @@
 //! What is asked of a message: its verdict, or what its signature is verified with.
 
-ghost use Rattle.std.specs.Prelude.{◌≡◌, ◌≤◌, ◌||◌, ℕ, false, List, Option, Some, None, Err, IfErr, IfOk, codes};
+ghost use Rattle.std.specs.Prelude.{◌≡◌, ◌≤◌, ◌||◌, ℕ, false, List, Option, Some, None, Err, IfErr, IfOk, codes, map, string_bytes};
 ghost use Rattle.cose_head.specs.declared.refusal.Refusal.{Refusal};
 ghost use Rattle.cose_msg.specs.Detached.{EitherFails};
 ghost use Rattle.cose_msg.specs.Kept.{bytes_taken};
-ghost use Rattle.cose_msg.specs.Shown.{sign_input_of};
+ghost use Rattle.cose_msg.specs.Shown.{protected_of, sign_input_of, unprotected_of};
 ghost use Rattle.cosecmd.specs.Faults.{FailsForKeys, IsOfMemoryOrInput, NamesOption, fails_by_file, fails_by_input};
 ghost use Rattle.cosecmd.specs.Limits.{AreSizesUnder};
 ghost use Rattle.cosecmd.specs.Options.{part_of_file};
 ghost use Rattle.cosecmd.specs.Payload.{detached_in, is_in_file};
 ghost use Rattle.cosecmd.specs.PayloadFile.{counted};
-ghost use Rattle.cosecmd.specs.Printed.{Says, answered_under, digested_before, followed_by, said_of, signature_asked, vouched};
+ghost use Rattle.cosecmd.specs.Printed.{Says, answered_under, digested_before, followed_by, said_before, said_of, said_with, vouched};
 ghost use Rattle.cosecmd.specs.Replies.{RepliesTo, RepliesToBoth};
 ghost use Rattle.cosecmd.specs.Stated.{RepliesWith, answered_from};
 ghost use Rattle.cosecmd.specs.Under.{under_of};
 
+use crate::answer::headers::{Buckets, headed_reply};
 use crate::answer::verdict::{CHUNK, reply_of, trailing_at, whole_verdict};
 use crate::fault::Fault;
 use crate::files::NamedFiles;
@@ -82,23 +83,50 @@ fn signature_reply<'k, const H: usize, const D: usize, const N: usize, I: Intake
     }
 }
 
+/// The reply with the verdict on a message, which no byte may follow, and of an authentic one with
+/// the parameters that have these labels.
+fn parameters_reply<'k, const H: usize, const D: usize, const N: usize, I: Intake>(
+    alloc: Global,
+    labels: &[String],
+    verdict: Verdict,
+    verifier: &Verifier<'k, H, D, KeyTable<'k, N>>,
+    intake: &mut I,
+) -> Result<Reply, Fault>
+    ensures says { RepliesTo (I.to_come intake.old) (λ rest. said_with
+        (map string_bytes labels.now) (protected_of verifier.now) (unprotected_of verifier.now)
+        (followed_by rest verdict)) result }
+    ensures fault { IfErr result IsOfMemoryOrInput }
+    ensures input { I.has_failed intake.new ≡ (I.has_failed intake.old || fails_by_input result) }
+{
+    let verdict = whole_verdict(verdict, intake)?;
+    let buckets = Buckets {
+        protected: verifier.protected(),
+        unprotected: verifier.unprotected(),
+    };
+    headed_reply(alloc, verdict, labels, &buckets)
+}
+
 /// The reply to what is asked of a message that the verifier has read, with this verdict.
 fn reply_to<'k, const H: usize, const D: usize, const N: usize, I: Intake>(
     alloc: Global,
-    question: Question,
+    question: &Question,
     verdict: Verdict,
     verifier: &Verifier<'k, H, D, KeyTable<'k, N>>,
     intake: &mut I,
 ) -> Result<Reply, Fault>
     ensures says { RepliesTo (I.to_come intake.old)
-        (λ rest. digested_before rest (signature_asked question (sign_input_of verifier.now))
-        (bytes_taken verifier.now) verdict) result }
+        (λ rest. said_before question.now rest (sign_input_of verifier.now)
+        (bytes_taken verifier.now) (protected_of verifier.now) (unprotected_of verifier.now)
+        verdict) result }
     ensures fault { IfErr result IsOfMemoryOrInput }
     ensures input { I.has_failed intake.new ≡ (I.has_failed intake.old || fails_by_input result) }
 {
     match question {
         Question::Verdict => verdict_reply(alloc, verdict, intake),
         Question::Digest => signature_reply(alloc, verdict, verifier, intake),
+        Question::Headers(labels) => {
+            parameters_reply(alloc, labels.as_slice(), verdict, verifier, intake)
+        }
     }
 }
 
@@ -106,7 +134,7 @@ fn reply_to<'k, const H: usize, const D: usize, const N: usize, I: Intake>(
 #[inline(never)]
 fn attached_reply<const H: usize, const D: usize, const N: usize, I: Intake>(
     alloc: Global,
-    question: Question,
+    question: &Question,
     checks: &Checks,
     intake: &mut I,
 ) -> Result<Reply, Fault>
@@ -117,7 +145,7 @@ fn attached_reply<const H: usize, const D: usize, const N: usize, I: Intake>(
     requires keys_limit { N ≤ 256 }
     requires sizes { AreSizesUnder checks.now.limits H D N }
     ensures says { RepliesTo (I.to_come intake.old)
-        (answered_under question (under_of checks.now) None) result }
+        (answered_under question.now (under_of checks.now) None) result }
     ensures keys { FailsForKeys (under_of checks.now).keys result }
     // Its fault is that the input failed exactly where the intake failed in this call.
     ensures input { I.has_failed intake.new ≡ (I.has_failed intake.old || fails_by_input result) }
@@ -146,7 +174,7 @@ fn attached_reply<const H: usize, const D: usize, const N: usize, I: Intake>(
 #[inline(never)]
 fn detached_reply<const H: usize, const D: usize, const N: usize, I: Intake, P: Intake>(
     alloc: Global,
-    question: Question,
+    question: &Question,
     checks: &Checks,
     payload_length: u64,
     payload: &mut P,
@@ -158,7 +186,7 @@ fn detached_reply<const H: usize, const D: usize, const N: usize, I: Intake, P: 
     requires some_keys { 1 ≤ N }
     requires keys_limit { N ≤ 256 }
     requires sizes { AreSizesUnder checks.now.limits H D N }
-    ensures says { RepliesWith question (under_of checks.now) payload_length
+    ensures says { RepliesWith question.now (under_of checks.now) payload_length
         (I.to_come intake.old) (P.to_come payload.old) (P.to_come payload.new)
         (P.ended payload.new) result }
     ensures keys { FailsForKeys (under_of checks.now).keys result }
@@ -197,13 +225,13 @@ fn detached_reply<const H: usize, const D: usize, const N: usize, I: Intake, P: 
 /// The same within the limits of the checks.
 fn reply_beside<I: Intake, P: Intake>(
     alloc: Global,
-    question: Question,
+    question: &Question,
     checks: &Checks,
     payload_length: u64,
     payload: &mut P,
     intake: &mut I,
 ) -> Result<Reply, Fault>
-    ensures says { RepliesWith question (under_of checks.now) payload_length
+    ensures says { RepliesWith question.now (under_of checks.now) payload_length
         (I.to_come intake.old) (P.to_come payload.old) (P.to_come payload.new)
         (P.ended payload.new) result }
     ensures keys { FailsForKeys (under_of checks.now).keys result }
@@ -235,13 +263,13 @@ fn reply_beside<I: Intake, P: Intake>(
 /// The reply to the message of an intake, which has nil in the place of the payload. The payload's bytes are these.
 fn reply_with_bytes<I: Intake>(
     alloc: Global,
-    question: Question,
+    question: &Question,
     checks: &Checks,
     payload: &[u8],
     intake: &mut I,
 ) -> Result<Reply, Fault>
     ensures says { RepliesTo (I.to_come intake.old)
-        (answered_under question (under_of checks.now) (Some payload.now)) result }
+        (answered_under question.now (under_of checks.now) (Some payload.now)) result }
     ensures keys { FailsForKeys (under_of checks.now).keys result }
     // Its fault is that the input failed exactly where the intake failed in this call.
     ensures input { I.has_failed intake.new ≡ (I.has_failed intake.old || fails_by_input result) }
@@ -264,7 +292,7 @@ fn reply_with_bytes<I: Intake>(
 /// The reply to the message of an intake whose payload comes from a file, so many of its first bytes.
 fn reply_with_file<I: Intake, R: Read>(
     alloc: Global,
-    question: Question,
+    question: &Question,
     checks: &Checks,
     payload_length: u64,
     payload: &mut PayloadFile<R>,
@@ -274,7 +302,7 @@ fn reply_with_file<I: Intake, R: Read>(
     ensures says { (bytes content : List ℕ) → I.to_come intake.old ≡ Some bytes →
         ⟦<PayloadFile<R> as Intake>⟧.to_come payload.old ≡ counted payload_length (Some content)
         → IfOk result
-        (Says (answered_from question (under_of checks.now) payload_length content bytes)) }
+        (Says (answered_from question.now (under_of checks.now) payload_length content bytes)) }
     ensures keys { FailsForKeys (under_of checks.now).keys result }
     // Its fault is that the file failed, or the input, exactly where it failed in this call.
     ensures file { ⟦<PayloadFile<R> as Intake>⟧.has_failed payload.new ≡ fails_by_file result }
@@ -298,14 +326,14 @@ fn reply_with_file<I: Intake, R: Read>(
 /// An error of `payload`, and an end before the stated length, is a fault, and no verdict.
 fn message_reply_with_file<P: Read, I: Intake>(
     alloc: Global,
-    question: Question,
+    question: &Question,
     checks: &Checks,
     payload_length: u64,
     payload: &mut P,
     intake: &mut I,
 ) -> Result<Reply, Fault>
     ensures says { RepliesToBoth (I.to_come intake.old) (P.remaining payload.old)
-        (answered_from question (under_of checks.now) payload_length) result }
+        (answered_from question.now (under_of checks.now) payload_length) result }
     ensures keys { FailsForKeys (under_of checks.now).keys result }
 {
     let mut file = PayloadFile::new(payload, payload_length);
@@ -318,7 +346,7 @@ fn message_reply_with_file<P: Read, I: Intake>(
 fn reply_from_file<F: NamedFiles, I: Intake>(
     alloc: Global,
     files: &F,
-    question: Question,
+    question: &Question,
     checks: &Checks,
     name: &str,
     stated: Option<u64>,
@@ -326,7 +354,8 @@ fn reply_from_file<F: NamedFiles, I: Intake>(
 ) -> Result<Reply, Fault>
     ensures says { (bytes payload : List ℕ) → I.to_come intake.old ≡ Some bytes →
         part_of_file (F.content files.now) name.now stated ≡ Some payload →
-        IfOk result (Says (answered_under question (under_of checks.now) (Some payload) bytes)) }
+        IfOk result
+        (Says (answered_under question.now (under_of checks.now) (Some payload) bytes)) }
     // The fault is of the keys only where their set is refused.
     ensures keys { (refusal : Refusal) → result ≡ Err (Fault.Keys refusal) →
         (under_of checks.now).keys ≡ Err refusal }
@@ -342,7 +371,7 @@ fn reply_from_file<F: NamedFiles, I: Intake>(
 pub fn message_reply<F: NamedFiles, R: Read>(
     alloc: Global,
     files: &F,
-    question: Question,
+    question: &Question,
     checks: &Checks,
     payload: &Payload,
     input: &mut R,
@@ -350,7 +379,7 @@ pub fn message_reply<F: NamedFiles, R: Read>(
     ensures says { (bytes : List ℕ) (detached : Option (List ℕ))
         → R.remaining input.old ≡ Some bytes →
         detached_in (F.content files.now) payload.entry.now ≡ Some detached →
-        IfOk result (Says (answered_under question (under_of checks.now) detached bytes)) }
+        IfOk result (Says (answered_under question.now (under_of checks.now) detached bytes)) }
     // Where the payload is in no file, the fault is of the keys exactly where their set is refused.
     ensures keys { is_in_file payload.entry.now ≡ false →
         FailsForKeys (under_of checks.now).keys result }

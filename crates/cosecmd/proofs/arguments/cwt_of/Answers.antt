@@ -10,5 +10,5 @@ returns g c =
       leeway = c.in_ok-leeway.ensures;
       aud = search rules;
       required = c.in_ok-required.ensures;
-      readable = c.flag_of-readable.ensures;
+      printing = c.printing_of-printing.ensures;
     }

@@ -25,7 +25,7 @@ use crate::limits::{
 };
 use crate::print::print_fault;
 use crate::reply::Status;
-use crate::request::Cwt;
+use crate::request::{Cwt, Printing};
 use crate::requirements::requirements_of;
 use crate::vouch::Vouch;
 use cose_cwt::{Claims, CwtStop, Policy, Requirements, TokenStop, verify_cwt};
@@ -40,7 +40,7 @@ pub struct Tokens<'j, const H: usize, const D: usize, const L: usize, S: Keys<'j
     vouch: Vouch<'j>,
     policy: Policy<'j>,
     requirements: Requirements<'j>,
-    readable: bool,
+    printing: Printing,
     verifier: Verifier<'j, H, D, S>,
     /// The claims of one token after the other.
     store: Store<L>,
@@ -86,7 +86,7 @@ impl<'j, const H: usize, const D: usize, const L: usize, S: Keys<'j>> Parts
     ghost reads = { λ tokens. read_as H D (setting_in tokens.verifier)
         (vouching (option_map contents tokens.vouch.word)) };
 
-    ghost alone = { λ tokens message. outcome_said tokens.readable
+    ghost alone = { λ tokens message. outcome_said tokens.printing
         (input_token H D (setting_in tokens.verifier)
         (vouching (option_map contents tokens.vouch.word)) (policy_value tokens.policy)
         (requirements_value tokens.requirements) message) };
@@ -104,7 +104,7 @@ impl<'j, const H: usize, const D: usize, const L: usize, S: Keys<'j>> Parts
         );
         let whole = is_token_whole(&claims);
         let token = claims_required(claims, &self.requirements);
-        let reply = match token_reply(alloc, token, self.readable) {
+        let reply = match token_reply(alloc, token, self.printing) {
             Ok(reply) => reply,
             Err(fault) => return Err(missing_by(fault)),
         };
@@ -158,7 +158,7 @@ fn print_within<
         vouch,
         policy,
         requirements,
-        readable: words.readable,
+        printing: words.printing,
         verifier,
         store: Store::new(),
     };
@@ -203,7 +203,7 @@ fn print_prepared<
         vouch,
         policy,
         requirements,
-        readable: words.readable,
+        printing: words.printing,
         verifier: Verifier::<H, D, &PreparedTable<'_, N>>::new(context),
         store: Store::new(),
     };

@@ -9,7 +9,7 @@ use Rattle.cosecmd.proofs.answer.cwt.admitted_reply.Goals as goal
 pub returns-clause-says : goal.returns-clause-says
 returns-clause-says g c = λ bytes e.
     let setting = setting_of usable c.token_context-context.result in
-    says_admitted (under_of c.args.checks.now) (usable c.in-Ok.keys) setting _ _ c.args.readable bytes _ c.token_reply.result
+    says_admitted (under_of c.args.checks.now) (usable c.in-Ok.keys) setting _ _ c.args.printing bytes _ c.token_reply.result
     (rw c.requires.sizes.keys_are (sym c.in-Ok.ensures.exact)) (rw c.requires.claims c.token_context-context.ensures.setting)
     (rw (c.requires.sizes.header_is, c.requires.sizes.nesting_is, sym c.vouch-vouch.ensures) (c.whole_token-token.ensures.whole setting bytes c.new-verifier.ensures.none_taken e))
     c.token_reply.ensures.says c.token_reply.ensures.unstopped

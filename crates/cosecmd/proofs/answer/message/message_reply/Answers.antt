@@ -9,28 +9,28 @@ pub returns-in-Small-clause-says : goal.returns-in-Small-clause-says
 returns-in-Small-clause-says g c = λ bytes detached e known.
     let content = g.F.NamedFiles.content c.args.files.now in
     let none = same_detached None detached _ (ap (detached_in content) c.in-InMessage.is) known in
-    let same = ap (λ (p : Option (List ℕ)). answered_under c.args.question (under_of c.args.checks.now) p bytes) none in
+    let same = ap (λ (p : Option (List ℕ)). answered_under c.args.question.now (under_of c.args.checks.now) p bytes) none in
     says_equal_words _ same (c.attached_reply.ensures.says bytes (c.new-intake.ensures.known ∙ e))
 
 pub returns-in-Large-clause-says : goal.returns-in-Large-clause-says
 returns-in-Large-clause-says g c = λ bytes detached e known.
     let content = g.F.NamedFiles.content c.args.files.now in
     let none = same_detached None detached _ (ap (detached_in content) c.in-InMessage.is) known in
-    let same = ap (λ (p : Option (List ℕ)). answered_under c.args.question (under_of c.args.checks.now) p bytes) none in
+    let same = ap (λ (p : Option (List ℕ)). answered_under c.args.question.now (under_of c.args.checks.now) p bytes) none in
     says_equal_words _ same (c.attached_reply-in-Large.ensures.says bytes (c.new-intake.ensures.known ∙ e))
 
 pub returns-in-Bytes-clause-says : goal.returns-in-Bytes-clause-says
 returns-in-Bytes-clause-says g c = λ bytes detached e known.
     let content = g.F.NamedFiles.content c.args.files.now in
     let given = same_detached (Some c.in-Bytes.bytes.items) detached _ (ap (detached_in content) c.in-Bytes.is) known in
-    let same = ap (λ (p : Option (List ℕ)). answered_under c.args.question (under_of c.args.checks.now) p bytes) (ap Some c.as_slice.ensures.value ∙ given) in
+    let same = ap (λ (p : Option (List ℕ)). answered_under c.args.question.now (under_of c.args.checks.now) p bytes) (ap Some c.as_slice.ensures.value ∙ given) in
     says_equal_words _ same (c.reply_with_bytes.ensures.says bytes (c.new-intake.ensures.known ∙ e))
 
 pub returns-in-File-clause-says : goal.returns-in-File-clause-says
 returns-in-File-clause-says g c = λ bytes detached e known.
     let content = g.F.NamedFiles.content c.args.files.now in
     let part = file_detached content c.args.payload.now detached c.in-File.name c.in-File.length c.in-File.is known in
-    let same = ap (λ (p : Option (List ℕ)). answered_under c.args.question (under_of c.args.checks.now) p bytes) part.2 in
+    let same = ap (λ (p : Option (List ℕ)). answered_under c.args.question.now (under_of c.args.checks.now) p bytes) part.2 in
     says_equal_words _ same (c.reply_from_file.ensures.says bytes part.0 (c.new-intake.ensures.known ∙ e) part.1)
 
 pub returns-in-File-clause-keys : goal.returns-in-File-clause-keys

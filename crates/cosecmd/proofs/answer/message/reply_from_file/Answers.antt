@@ -9,7 +9,7 @@ returns-clause-says g c = λ bytes payload e known.
     let opened = c.in-Ok.ensures file.bytes file.known in
     let payload_length = c.in-Ok.opened.1 in
     let part : Part payload_length file.bytes payload = subst (λ (stated : ℕ). Part stated file.bytes payload) (sym opened.1) file.part in
-    says_equal_words _ (file_words c.args.question (under_of c.args.checks.now) payload_length file.bytes payload bytes part)
+    says_equal_words _ (file_words c.args.question.now (under_of c.args.checks.now) payload_length file.bytes payload bytes part)
     (c.message_reply_with_file.ensures.says bytes file.bytes e opened.0)
 
 pub returns-clause-keys : goal.returns-clause-keys

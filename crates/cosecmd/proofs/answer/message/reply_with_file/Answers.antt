@@ -14,7 +14,7 @@ returns-in-Ok-clause-says g c = λ bytes content e told.
     let small : stated < 2 ^ 64 = search rules in
     let small_left : after.left < 2 ^ 64 = after.in_range in
     let reply : Result Reply Fault = Ok c.in-Ok.reply in
-    says_from_reader c.args.question (under_of c.args.checks.now) stated c.deciding_goes_last.ensures.verifying c.payload_stays.ensures.complete content bytes after.left (g.R.Read.remaining after.reader) _ small small_left _ reply told
+    says_from_reader c.args.question.now (under_of c.args.checks.now) stated c.deciding_goes_last.ensures.verifying c.payload_stays.ensures.complete content bytes after.left (g.R.Read.remaining after.reader) _ small small_left _ reply told
     c.in-Ok.ensures.keys (rw e at c.in-Ok.ensures.says) (ends_whole after.ended after.left)
 
 pub returns-in-Err-clause-keys : goal.returns-in-Err-clause-keys

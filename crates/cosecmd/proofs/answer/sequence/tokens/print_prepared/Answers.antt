@@ -22,8 +22,8 @@ returns-clause-prints g c = λ bytes e.
     let policy = program_policy words.now words.leeway (option_map text_value words.aud) in
     let requirements = requirements_for words.now words.leeway words.required in
     let setting = setting_in c.new.result in
-    prints_as (admitted_in setting under (policy_value c.policy_of-policy.result) (requirements_value c.requirements_of-requirements.result) words.readable) (admitted_each_for words) bytes _ _ _
-    (λ input. ap (λ (p : PolicyValue). admitted_in setting under p (requirements_value c.requirements_of-requirements.result) words.readable input) (c.policy_of-policy.ensures ∙ ap (λ (at : ℤ). program_policy at words.leeway (option_map text_value words.aud)) (to_z-of_z w64 words.now in_range)) ∙ ap (λ (r : RequirementsValue). admitted_in setting under policy r words.readable input) (c.requirements_of-requirements.ensures ∙ ap (λ (at : ℤ). requirements_for at words.leeway words.required) (to_z-of_z w64 words.now in_range)) ∙ admitted_as under policy requirements words.readable _ setting input c.requires.keys_are (rw c.requires.claims (c.new.ensures.context ∙ c.token_context-context.ensures.setting)))
+    prints_as (admitted_in setting under (policy_value c.policy_of-policy.result) (requirements_value c.requirements_of-requirements.result) words.printing) (admitted_each_for words) bytes _ _ _
+    (λ input. ap (λ (p : PolicyValue). admitted_in setting under p (requirements_value c.requirements_of-requirements.result) words.printing input) (c.policy_of-policy.ensures ∙ ap (λ (at : ℤ). program_policy at words.leeway (option_map text_value words.aud)) (to_z-of_z w64 words.now in_range)) ∙ ap (λ (r : RequirementsValue). admitted_in setting under policy r words.printing input) (c.requirements_of-requirements.ensures ∙ ap (λ (at : ℤ). requirements_for at words.leeway words.required) (to_z-of_z w64 words.now in_range)) ∙ admitted_as under policy requirements words.printing _ setting input c.requires.keys_are (rw c.requires.claims (c.new.ensures.context ∙ c.token_context-context.ensures.setting)))
     (rw (c.requires.sizes.header_is, c.requires.sizes.nesting_is, sym c.vouch-vouch.ensures) (c.print_read.ensures.prints bytes e))
 
 pub returns-clause-fails : goal.returns-clause-fails
@@ -34,6 +34,6 @@ returns-clause-fails g c = λ bytes e two.
     let policy = program_policy words.now words.leeway (option_map text_value words.aud) in
     let requirements = requirements_for words.now words.leeway words.required in
     let setting = setting_in c.new.result in
-    fails_as (admitted_in setting under (policy_value c.policy_of-policy.result) (requirements_value c.requirements_of-requirements.result) words.readable) (admitted_each_for words) bytes _ _
-    (λ input. ap (λ (p : PolicyValue). admitted_in setting under p (requirements_value c.requirements_of-requirements.result) words.readable input) (c.policy_of-policy.ensures ∙ ap (λ (at : ℤ). program_policy at words.leeway (option_map text_value words.aud)) (to_z-of_z w64 words.now in_range)) ∙ ap (λ (r : RequirementsValue). admitted_in setting under policy r words.readable input) (c.requirements_of-requirements.ensures ∙ ap (λ (at : ℤ). requirements_for at words.leeway words.required) (to_z-of_z w64 words.now in_range)) ∙ admitted_as under policy requirements words.readable _ setting input c.requires.keys_are (rw c.requires.claims (c.new.ensures.context ∙ c.token_context-context.ensures.setting)))
+    fails_as (admitted_in setting under (policy_value c.policy_of-policy.result) (requirements_value c.requirements_of-requirements.result) words.printing) (admitted_each_for words) bytes _ _
+    (λ input. ap (λ (p : PolicyValue). admitted_in setting under p (requirements_value c.requirements_of-requirements.result) words.printing input) (c.policy_of-policy.ensures ∙ ap (λ (at : ℤ). program_policy at words.leeway (option_map text_value words.aud)) (to_z-of_z w64 words.now in_range)) ∙ ap (λ (r : RequirementsValue). admitted_in setting under policy r words.printing input) (c.requirements_of-requirements.ensures ∙ ap (λ (at : ℤ). requirements_for at words.leeway words.required) (to_z-of_z w64 words.now in_range)) ∙ admitted_as under policy requirements words.printing _ setting input c.requires.keys_are (rw c.requires.claims (c.new.ensures.context ∙ c.token_context-context.ensures.setting)))
     (rw (c.requires.sizes.header_is, c.requires.sizes.nesting_is, sym c.vouch-vouch.ensures) (c.print_read.ensures.fails bytes e two))

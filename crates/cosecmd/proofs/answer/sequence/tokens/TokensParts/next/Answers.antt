@@ -34,7 +34,7 @@ returns-clause-part g c = λ bytes e.
     (c.verify_cwt-claims.ensures.run setting has) c.taken-taken.ensures.value (sym (ap stopped_in c.claims_required-token.ensures) ∙ c.in-Ok.ensures.unstopped) in
     let some : 0 < c.taken-taken.result = omega (arith, c.if-taken-eq0.false) in
     next_found (verifying g.row.H g.row.D setting decides) _ bytes _ token.taken token.verdict _ token.these token.counted some (c.is_token_whole-whole.ensures ∙ token.whole)
-    (subst (λ (o : Admission). Says (outcome_said tokens.readable o) c.in-Ok.reply) (c.claims_required-token.ensures ∙ token.alone) c.in-Ok.ensures.says)
+    (subst (λ (o : Admission). Says (outcome_said tokens.printing o) c.in-Ok.reply) (c.claims_required-token.ensures ∙ token.alone) c.in-Ok.ensures.says)
 
 pub returns-in-Err-clause-same_reading : goal.returns-in-Err-clause-same_reading
 returns-in-Err-clause-same_reading g c =
@@ -46,7 +46,7 @@ pub returns-in-Err-clause-same_lines : goal.returns-in-Err-clause-same_lines
 returns-in-Err-clause-same_lines g c =
     let tokens = c.args.self.now in
     let has = anew tokens.verifier c.reset.new.self tokens.verifies c.reset.ensures.none_taken in
-    ap (λ (s : Setting). λ (message : List ℕ). outcome_said tokens.readable (input_token g.row.H g.row.D s (vouching (option_map contents tokens.vouch.word)) (policy_value tokens.policy) (requirements_value tokens.requirements) message)) (c.verify_cwt-claims.ensures.purpose.context has ∙ ap (λ (t : Task). t.setting) c.reset.ensures.purpose)
+    ap (λ (s : Setting). λ (message : List ℕ). outcome_said tokens.printing (input_token g.row.H g.row.D s (vouching (option_map contents tokens.vouch.word)) (policy_value tokens.policy) (requirements_value tokens.requirements) message)) (c.verify_cwt-claims.ensures.purpose.context has ∙ ap (λ (t : Task). t.setting) c.reset.ensures.purpose)
 
 pub returns-then-taken-eq0-clause-same_reading : goal.returns-then-taken-eq0-clause-same_reading
 returns-then-taken-eq0-clause-same_reading g c =
@@ -58,7 +58,7 @@ pub returns-then-taken-eq0-clause-same_lines : goal.returns-then-taken-eq0-claus
 returns-then-taken-eq0-clause-same_lines g c =
     let tokens = c.args.self.now in
     let has = anew tokens.verifier c.reset.new.self tokens.verifies c.reset.ensures.none_taken in
-    ap (λ (s : Setting). λ (message : List ℕ). outcome_said tokens.readable (input_token g.row.H g.row.D s (vouching (option_map contents tokens.vouch.word)) (policy_value tokens.policy) (requirements_value tokens.requirements) message)) (c.verify_cwt-claims.ensures.purpose.context has ∙ ap (λ (t : Task). t.setting) c.reset.ensures.purpose)
+    ap (λ (s : Setting). λ (message : List ℕ). outcome_said tokens.printing (input_token g.row.H g.row.D s (vouching (option_map contents tokens.vouch.word)) (policy_value tokens.policy) (requirements_value tokens.requirements) message)) (c.verify_cwt-claims.ensures.purpose.context has ∙ ap (λ (t : Task). t.setting) c.reset.ensures.purpose)
 
 pub returns-clause-same_reading : goal.returns-clause-same_reading
 returns-clause-same_reading g c =
@@ -70,7 +70,7 @@ pub returns-clause-same_lines : goal.returns-clause-same_lines
 returns-clause-same_lines g c =
     let tokens = c.args.self.now in
     let has = anew tokens.verifier c.reset.new.self tokens.verifies c.reset.ensures.none_taken in
-    ap (λ (s : Setting). λ (message : List ℕ). outcome_said tokens.readable (input_token g.row.H g.row.D s (vouching (option_map contents tokens.vouch.word)) (policy_value tokens.policy) (requirements_value tokens.requirements) message)) (c.verify_cwt-claims.ensures.purpose.context has ∙ ap (λ (t : Task). t.setting) c.reset.ensures.purpose)
+    ap (λ (s : Setting). λ (message : List ℕ). outcome_said tokens.printing (input_token g.row.H g.row.D s (vouching (option_map contents tokens.vouch.word)) (policy_value tokens.policy) (requirements_value tokens.requirements) message)) (c.verify_cwt-claims.ensures.purpose.context has ∙ ap (λ (t : Task). t.setting) c.reset.ensures.purpose)
 
 pub invariant_of-self : goal.invariant_of-self
 invariant_of-self g c =
