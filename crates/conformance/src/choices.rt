@@ -55,7 +55,7 @@ fn is_chosen<'k, K: Keys<'k>>(
 }
 
 /// Whether the key that is found stands where it is expected, where that is said, and no place is given where none is found.
-fn is_placed(place: Option<usize>, expected: &Value) -> Result<(), Difference> {
+pub fn is_placed(place: Option<usize>, expected: &Value) -> Result<(), Difference> {
     let is_expected = match (place, optional_integer(expected, "index")) {
         (Some(place), Some(expected)) => place as u64 == expected,
         (place, _) => place.is_some() == (text(expected, "verdict") == "found"),
@@ -94,19 +94,24 @@ fn is_chosen_of_allowed(
     }
 }
 
+/// What the message of a test asks of its key, with this identifier.
+pub fn query_of<'q>(test: &'q Value, kid: Option<&'q [u8]>) -> Query<'q> {
+    let kind = kind_of(test);
+    Query {
+        kind,
+        operation: operation_of(kind),
+        protected_alg: label(test, "protectedAlg"),
+        unprotected_alg: label(test, "unprotectedAlg"),
+        kid,
+    }
+}
+
 /// Runs a test.
 pub fn run_test(alloc: Global, group: &Value, test: &Value) -> Result<(), Difference> {
     let keys = bytes(alloc, group, "keys");
     let keys = keys.as_slice();
     let kid = optional_bytes(alloc, test, "kid");
-    let kind = kind_of(test);
-    let query = Query {
-        kind,
-        operation: operation_of(kind),
-        protected_alg: label(test, "protectedAlg"),
-        unprotected_alg: label(test, "unprotectedAlg"),
-        kid: kid.as_ref().map(Vec::as_slice),
-    };
+    let query = query_of(test, kid.as_ref().map(Vec::as_slice));
     let expected = object(test, "result");
     is_chosen_of_allowed(alloc, keys, group, &query, expected)?;
     if group.get("algorithms").is_some() || group.get("leastSecret").is_some() {

@@ -19,7 +19,7 @@ pub fn are_bytes(alloc: Global, expected: &Value, name: &str, seen: Option<&[u8]
 }
 
 /// Whether an operation is among those of an array.
-fn is_listed(operations: &[Value], number: u64) -> bool {
+pub fn is_listed(operations: &[Value], number: u64) -> bool {
     for operation in operations {
         if operation.as_u64() == Some(number) {
             return true;
@@ -29,7 +29,7 @@ fn is_listed(operations: &[Value], number: u64) -> bool {
 }
 
 /// Whether the operations, where a key lists any, are the expected ones of those from 1 to 10.
-fn are_operations(ops: Option<Ops<'_>>, expected: &Value) -> bool {
+pub fn are_operations(ops: Option<Ops<'_>>, expected: &Value) -> bool {
     let Some(ops) = ops else {
         return expected.get("operations").is_none();
     };

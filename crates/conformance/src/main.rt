@@ -11,6 +11,7 @@ mod digests;
 mod elsewhere;
 mod expected;
 mod fields;
+mod further;
 mod headers;
 mod heads;
 mod items;
@@ -18,6 +19,7 @@ mod keys;
 mod macs;
 mod made;
 mod messages;
+mod okp_keys;
 mod requirements;
 mod sets;
 mod setting;
@@ -37,8 +39,9 @@ use std::rt::Files;
 use std::{fs, io};
 
 /// The files, by their schema: those of rows/ but `commands`, which is for the program.
-const SCHEMAS: [&str; 20] = [
+const SCHEMAS: [&str; 23] = [
     "algorithms",
+    "further",
     "heads",
     "items",
     "values",
@@ -47,6 +50,8 @@ const SCHEMAS: [&str; 20] = [
     "keys",
     "sets",
     "choices",
+    "okp_keys",
+    "further_choices",
     "macs",
     "digests",
     "structures",
@@ -71,6 +76,7 @@ struct Count {
 fn run_test(alloc: Global, schema: &str, group: &Value, test: &Value) -> Result<(), Difference> {
     match schema {
         "algorithms" => algorithms::run_test(test),
+        "further" => further::run_test(test),
         "heads" => heads::run_test(alloc, test),
         "items" => items::run_test(alloc, test),
         "values" => values::run_test(alloc, group, test),
@@ -79,6 +85,8 @@ fn run_test(alloc: Global, schema: &str, group: &Value, test: &Value) -> Result<
         "keys" => keys::run_test(alloc, group, test),
         "sets" => sets::run_test(alloc, group, test),
         "choices" => choices::run_test(alloc, group, test),
+        "okp_keys" => okp_keys::run_test(alloc, group, test),
+        "further_choices" => okp_keys::run_choice(alloc, group, test),
         "macs" => macs::run_test(alloc, group, test),
         "digests" => digests::run_test(alloc, group, test),
         "structures" => structures::run_test(alloc, test),
