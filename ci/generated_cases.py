@@ -438,6 +438,8 @@ class Round:
             options["least-secret"] = str(self.pick(2, 4, 16, 64, 65, 2**64 - 1) if self.slips() else self.pick(0, 1))
         if self.command != "show" and self.happens(0.2):
             options["aad"] = self.argument(self.some_bytes()[:ARGUMENT_BYTES])
+        if self.command == "verify" and self.happens(0.2):
+            options["header"] = [self.label() for _ in range(self.pick(1, 1, 2, 5))]
         if self.command == "cwt":
             options["now"] = str(self.now)
             if self.leeway or self.happens(0.2):
@@ -446,7 +448,16 @@ class Round:
                 options["aud"] = self.pick(*TEXTS) if self.slips() else self.audience
             if self.happens(0.3):
                 options |= self.requirements()
+            if self.happens(0.3):
+                options["claims"] = "all"
         return options
+
+    def label(self):
+        """An argument of --header; at a slip one that is written otherwise, or is no label."""
+        if self.slips():
+            return self.pick("+4", "04", "-0", "4a", "-", '"4"', '"', '"x', '"\\u00e9"', '"\\u0041"', str(2**63), "a\nb")
+        label = self.chance.choice(LABELS)
+        return str(label) if isinstance(label, int) or self.happens(0.5) else second_program.quoted(label)
 
     def algorithms(self):
         """A list with the message's algorithm; at a slip without it, or no list of algorithms."""

@@ -45,6 +45,9 @@ def bytes_ends():
     old = "element.name() not in understood:"
     new = "not any(turned(element.name(), it) for it in understood):"
     yield from compared("CritUnknown", old, new, ("headers", "messages", "shapes"), BYTES)
+    old = "        if label in bucket:\n"
+    new = "        label = next((it for it in bucket if turned(it, label)), label)\n" + old
+    yield from compared("--header", old, new, ("commands",), BYTES, PROGRAM)
     yield from authenticator_ends()
 
 
@@ -119,6 +122,10 @@ def list_ends():
     yield from lists("key_ops of make", old, old.replace("key.", "turned(key.") + ")", ("made", "commands"), 1, 2, source=PROGRAM)
     old = "and all(map(test, value.children))"
     yield from lists("is_array_of", old, "and all(map(test, turned(value.children)))", ("buckets", "keys", "claims"), 1, 8, 255)
+    yield from lists("--header", "for it in context.labels)]", "for it in turned(context.labels))]", ("commands",), 1, 8, 16, source=PROGRAM)
+    yield from lists("the pairs of a bucket for --header", "if label in bucket:", "if label in turned([*bucket]):", ("commands",), 1, 8, 255, source=PROGRAM)
+    old = "zip(payload.children[::2], payload.children[1::2])"
+    yield from lists("cwt --claims", old, f"turned([*{old}])", ("commands",), 1, 8, 255, source=PROGRAM)
     yield from lists("the items of keys", "for place, it in items]", "for place, it in turned(items)]", ("commands",), 1, 16, 255, source=PROGRAM)
     old = "    while place < len(data):\n        lines.append"
     for count in (1, 2, 16, 255):
@@ -172,6 +179,11 @@ def number_ends():
         yield from numbers(rule, old, new, KEYS, SIZES[:1])
     old = "is_long = key.secret is None or len(key.secret) >= least_secret"
     yield from numbers("the number of --least-secret", old, old.replace(">= least_secret", ">= turned(least_secret)"), ("choices", "commands"), SIZES)
+    old = "        if label in bucket:\n"
+    new = "        label = next((it for it in bucket if turned(it) == turned(label)), label)\n" + old
+    yield from numbers("--header", old, new, ("commands",), NUMBERS, PROGRAM)
+    old = "if label.name() not in range(1, 8):"
+    yield from numbers("cwt --claims", old, old.replace("label.name()", "turned(label.name())"), ("commands",), NUMBERS, PROGRAM)
     yield from date_ends(numbers)
 
 
@@ -321,6 +333,12 @@ def limit_ends():
                 yield from next_to(f"--limits large: {name}", "Limits(65_535, 16, 256, 65_535)", new, ("commands",), PROGRAM)
     yield from next_to("--kid", "len(kid) > KID_LIMIT", "len(kid) > KID_LIMIT + {}", ("made", "signed", "commands"), PROGRAM)
     yield from next_to("--aad", "len(aad) > AAD_LIMIT", "len(aad) > AAD_LIMIT + {}", ("made", "signed", "commands"), PROGRAM)
+    old = "not -(2**63) <= int(word) < 2**63:"
+    yield from next_to("--header: the least integer", old, old.replace("-(2**63)", "-(2**63) + {}"), ("commands",), PROGRAM)
+    yield from next_to("--header: the greatest integer", old, old.replace("< 2**63", "< 2**63 + {}"), ("commands",), PROGRAM)
+    old = "if label.name() not in range(1, 8):"
+    yield from next_to("cwt --claims: the first registered claim", old, old.replace("1,", "1 + {},"), ("commands",), PROGRAM)
+    yield from next_to("cwt --claims: the last registered claim", old, old.replace("8", "8 + {}"), ("commands",), PROGRAM)
     old = "payload_limit = limits.claims if has_payload"
     yield from next_to("show --with-payload: the most bytes", old, old.replace("claims", "claims + {}"), ("commands",), PROGRAM)
     old = "len(payload), nesting)"
@@ -373,7 +391,7 @@ def order_ends():
         name = next(it for it in reversed(lines[:at]) if it.startswith("def ")).split("(")[0][4:]
         first, second = (re.search(r"(?:Reason\.|, )(\w+), [^,]+$", it).group(1) for it in (one, other))
         if (name, first, second) not in APART:
-            subjects = (*MESSAGES, "sets", "keys", "claims", "items", "choices")
+            subjects = (*MESSAGES, "sets", "keys", "okp_keys", "claims", "items", "choices", "further_choices")
             yield End(f"{name}: {first} before {second}", "both at once", ((f"{one}\n{other}", f"{other}\n{one}"),), subjects)
     yield from claim_orders(SOURCES[READING])
     yield from message_orders()
@@ -674,7 +692,60 @@ def auto_ends(ends):
         yield ends("auto", f"{it} begins a text", old, turned)
 
 
+# ---- OKP keys, and the algorithms that are left to the caller
+
+
+def further_ends():
+    keys, choices = ("okp_keys",), ("further_choices",)
+    old = "(None in (key.kid, asked) or key.kid == asked)"
+    yield from compared("kid of the OKP key that is chosen", old, old.replace("key.kid == asked", "turned(key.kid, asked)"), choices, BYTES)
+    old = "    for key in keys:\n        with_alg"
+    yield from compared("the OKP keys of a set", old, old.replace("in keys", "in turned(keys)"), choices, first_items(1, 8, 15, 255))
+    old = "VERIFY in key.operations)"
+    yield from compared("key_ops of the OKP key that is chosen", old, "VERIFY in turned(key.operations))", choices, first_items(1, 2, 8))
+    for label, rule in ("inside", "alg of the protected header"), ("outside", "alg of the unprotected header"):
+        old = "    stated = outside if inside is None else inside\n"
+        yield from compared(f"the algorithms that are left to the caller: {rule}", old, f"    {label} = turned({label})\n{old}", choices, NUMBERS)
+    old = "return Key(OKP, content_of(pairs, 2), name_of(pairs, 3), operations, curve"
+    yield from compared("alg of an OKP key", old, old.replace("name_of(pairs, 3)", "turned(name_of(pairs, 3))"), keys, NUMBERS)
+    yield from compared("kty of an OKP key", "name_of(pairs, 1) == OKP", "turned(name_of(pairs, 1)) == OKP", keys, NUMBERS)
+    yield from compared("crv of an OKP key", "number = curve.integer()", "number = turned(curve.integer())", keys, NUMBERS)
+    old = "[it.integer() for it in listed]"
+    yield from compared("key_ops of an OKP key", old, old.replace("it.integer()", "turned(it.integer())"), keys, NUMBERS)
+    yield from compared("the length of x", "x.argument == PUBLIC", "turned(x.argument) == PUBLIC", keys, SIZES[:1])
+    for by in (1, -1):
+        yield End("the length of x", f"{by:+} byte", (("x.argument == PUBLIC", f"x.argument + {by} == PUBLIC"),), keys)
+    yield from further_table_ends(keys, choices)
+
+
+def further_table_ends(keys, choices):
+    after = "\nSIGNATURE_BYTES = {"
+    yield from left_out("the algorithms that are left to the caller", after, "\nFURTHER.pop({})", (-8, -19, -53), ("further", *choices))
+    for alg, curves in (-8, (6,)), (-8, (7,)), (-19, (7,)), (-19, (6, 7)), (-53, (6,)), (-53, (6, 7)):
+        edits = ((after, f"\nFURTHER[{alg}] = {curves}\n{after}"),)
+        yield End("the algorithms that are left to the caller", f"curves {curves} of {alg}", edits, ("further", *choices))
+    after = "\n\ndef okp_key_of(item):"
+    yield from left_out("the curves of OKP keys", after, "\nPUBLIC_KEY_BYTES.pop({})", (6, 7), keys)
+    for curve in (6, 7):
+        edits = (("SIGNATURE_BYTES = {", f"SIGNATURE_BYTES = {{{curve}: 63, **{{it: length for it, length in ((6, 64), (7, 114)) if it != {curve}}}}} or {{"),)
+        yield End("the bytes of a signature", f"on the curve {curve}", edits, keys)
+    for end, old, new in (
+        ("alg of the unprotected header is used", "and key.alg != outside)", "and False)"),
+        ("of a MAC", 'kind == "sign1" and stated in FURTHER', "stated in FURTHER"),
+        ("the key names another algorithm", "and key.alg in (None, with_alg)", ""),
+        ("the first of two keys", "demand(len(fitting) <= 1, Reason.AmbiguousKey, place)", ""),
+        ("NoKey for NoAlg", "Reason.NoAlg if stated is None else", ""),
+        ("NoKey for AlgUnprotected", "Reason.AlgUnprotected if inside is None else", ""),
+        ("a text is no unknown curve", "is_integer_or_text(curve), Reason", "number is not None, Reason"),
+        ("any d", "demand(is_bytes(pairs[-4][1]), Reason.BadValue, pairs[-4][1].place)", "pass"),
+        ("a text for x", "demand(is_bytes(x) and x.argument", "demand(x.major in (BYTES, TEXT) and x.argument"),
+    ):
+        yield End("OKP keys", end, ((old, new),), ("further", *keys, *choices))
+    edits = (("with_alg = key.alg if", "with_alg = key.alg or outside if"), ("and key.alg != outside)", "and key.alg not in (None, outside))"))
+    yield End("OKP keys", "alg of the unprotected header is used where the key names none", edits, choices)
+
+
 def all_ends():
-    parts = (bytes_ends, list_ends, number_ends, table_ends, limit_ends, order_ends, text_ends, day_ends, sequence_ends, detached_ends, input_ends)
+    parts = (bytes_ends, list_ends, number_ends, table_ends, limit_ends, order_ends, text_ends, day_ends, sequence_ends, detached_ends, input_ends, further_ends)
     for part in parts:
         yield from part()

@@ -143,6 +143,16 @@ def keys(reading, _program, group, test):
     return {"verdict": "key", **shown_key(reading.read_key(bytes.fromhex(test["key"])), reading)}
 
 
+def okp_keys(reading, _program, group, test):
+    key = reading.read_okp_key(bytes.fromhex(test["key"]))
+    shown = {"kid": key.kid.hex()} if key.kid is not None else {}
+    if key.alg is not None:
+        shown["alg"] = key.alg
+    if key.operations is not None:
+        shown["operations"] = reading.known_operations(key)
+    return {"verdict": "key", **shown, "curve": key.curve, "x": key.x.hex(), "signature": reading.SIGNATURE_BYTES[key.curve]}
+
+
 def sets(reading, _program, group, test):
     count = len(keys_of(reading, bytes.fromhex(test["set"])))
     reading.demand(count <= group.get("table", count), reading.Reason.BadKeySet, 0)
@@ -178,16 +188,29 @@ class Later:
 def choices(reading, _program, group, test):
     algorithms = frozenset(group["algorithms"]) if "algorithms" in group else None
     usable = keys_of(reading, bytes.fromhex(group["keys"]), algorithms, group.get("leastSecret", 0))
-    protected, unprotected = {}, {}
-    for pairs, label, name in (protected, 1, "protectedAlg"), (unprotected, 1, "unprotectedAlg"), (protected, 4, "kid"):
-        if name in test:
-            pairs[label] = None, item_of(reading, spelled(reading, test[name], is_hex=name == "kid"))
+    protected, unprotected = asked_by(reading, test)
     key, alg = reading.choose_key(usable, test["kind"], protected, unprotected, 0)
     material = {"secret": key.secret.hex()} if key.secret is not None else {"curve": key.curve, "x": key.x.hex()}
     # a row under restrictions doesn't say where the key stands
     before = next(before for before, usable_key in enumerate(usable) if usable_key is key)
     index = {"index": before} if "index" in test["result"] else {}
     return {"verdict": "found", **index, "alg": alg, **material}
+
+
+def asked_by(reading, test):
+    """The header buckets of a message that says this of its key."""
+    protected, unprotected = {}, {}
+    for pairs, label, name in (protected, 1, "protectedAlg"), (unprotected, 1, "unprotectedAlg"), (protected, 4, "kid"):
+        if name in test:
+            pairs[label] = None, item_of(reading, spelled(reading, test[name], is_hex=name == "kid"))
+    return protected, unprotected
+
+
+def further_choices(reading, _program, group, test):
+    keys = reading.read_okp_keys(bytes.fromhex(group["keys"]))
+    key, alg = reading.choose_further_key(keys, test["kind"], *asked_by(reading, test), 0)
+    before = next(before for before, usable_key in enumerate(keys) if usable_key is key)
+    return {"verdict": "found", "index": before, "alg": alg, "curve": key.curve, "x": key.x.hex()}
 
 
 def spelled(reading, value, is_hex=False):
@@ -265,6 +288,11 @@ def algorithms(reading, _program, _group, test):
     return {"verdict": "algorithm", "kind": row.kind, "hash": row.hash, **curve, "length": row.auth_length}
 
 
+def further(reading, _program, _group, test):
+    curves = reading.FURTHER.get(int(test["alg"]))
+    return {"verdict": "unknown"} if curves is None else {"verdict": "algorithm", "curves": list(curves)}
+
+
 def macs(reading, _program, group, test):
     key = reading.Key(reading.SYMMETRIC, None, None, None, bytes.fromhex(test["key"]))
     return {"verdict": "mac", "mac": reading.mac(group["alg"], key, bytes.fromhex(test["text"])).hex()}
@@ -311,7 +339,7 @@ def signed(_reading, program, _group, test):
 
 
 # the options without an argument, and those that may be there several times
-FLAGS, REPEATED = ("sequence", "text", "diagnostic", "detached", "with-payload", "for-message", "require-aud"), ("require",)
+FLAGS, REPEATED = ("sequence", "text", "diagnostic", "detached", "with-payload", "for-message", "require-aud"), ("require", "header")
 
 
 def options_of(test):
@@ -362,7 +390,7 @@ def result_of(reading, program, subject, group, test):
 
 
 # the subjects whose groups say the place of the first byte
-PLACED = ("buckets", "keys", "values")
+PLACED = ("buckets", "keys", "okp_keys", "values")
 # what a row says besides, which the second reading doesn't know: how many bytes decide a refusal
 UNKNOWN = ("taken", "payloadTaken", "going")
 

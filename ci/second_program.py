@@ -6,6 +6,7 @@ are judged are those of README.md and of the section on the program in docs/DECI
 """
 import contextlib
 import datetime
+import json
 import re
 from dataclasses import dataclass
 
@@ -99,6 +100,7 @@ def context_of(command, options):
     keys, algorithms, aad = hexadecimal(options, "keys"), algorithms_of(options), external_data(options)
     least_secret = int(options.get("least-secret", "0"))
     vouch, payload = hexadecimal(options, "vouch"), hexadecimal(options, "payload")
+    labels = [label_of(it) for it in options.get("header", [])]
     limits = limits_of(options)
     try:
         usable = reading.read_key_set(keys, algorithms, least_secret, limits.usable_keys)
@@ -107,7 +109,7 @@ def context_of(command, options):
     wanted = "sign1" if command == "digest" else options.get("kind", "tagged")
     payload_limit = limits.claims if command == "cwt" else reading.PAYLOAD_LIMIT
     context = reading.Context(wanted, usable, aad, payload_limit, vouch, payload)
-    context.header_limit, context.nesting = limits.header, limits.nesting
+    context.header_limit, context.nesting, context.labels = limits.header, limits.nesting, labels
     return context
 
 
@@ -189,7 +191,32 @@ def verify(options, data):
         return sequence(data, lambda rest: verified(context, rest))
     message, lines = verified(context, data)
     demand_end(data, message)
-    return printed(lines)
+    return printed([*lines, *(line_of_parameter(*it, message) for it in context.labels)])
+
+
+# a text in quotes as `show` writes it: of a printable ASCII character there is no escape of its number
+IN_QUOTES = r'"(?:[ !#-\[\]-~]|\\["\\]|\\u(?!00(?:[2-6][0-9a-f]|7[0-9a-e]))[0-9a-f]{4})*"'
+
+
+def label_of(word):
+    """The label that an argument of --header is, and its notation: an integer or a text, in quotes where it begins as a number or so."""
+    if re.match(r"[-+0-9]", word):
+        if not re.fullmatch(r"[+-]?[0-9]+", word, re.ASCII) or not -(2**63) <= int(word) < 2**63:
+            raise Fault("line header")
+        return int(word), str(int(word))
+    if not word.startswith('"'):
+        return word, quoted(word)
+    if not re.fullmatch(IN_QUOTES, word):
+        raise Fault("line header")
+    return json.loads(word), word
+
+
+def line_of_parameter(label, notation, message):
+    """The line of the header parameter of a label."""
+    for name, bucket in ("protected", message.protected), ("unprotected", message.unprotected):
+        if label in bucket:
+            return f"{name} {notation}: {diagnostic(bucket[label][1])}"
+    return f"absent {notation}"
 
 
 def verified(context, data):
@@ -265,7 +292,15 @@ def admitted(options, context, data):
         reading.admit(claims, int(options["now"]), int(options.get("leeway", "0")), audience)
     for name, place in reading.unmet_requirements(claims, requirements_of(options)):
         raise Unmet(f"policy {name} at {place}", message.taken)
-    return message, list(lines_of_claims(claims, "text" in options))
+    others = lines_of_others(reading.read_whole(message.payload, 0, len(message.payload), context.nesting)) if "claims" in options else []
+    return message, [*lines_of_claims(claims, "text" in options), *others]
+
+
+def lines_of_others(payload):
+    """The claims that aren't registered (RFC 8392 section 3.1), in the order of the payload."""
+    for label, value in zip(payload.children[::2], payload.children[1::2]):
+        if label.name() not in range(1, 8):
+            yield f"claim {diagnostic(label)}: {diagnostic(value)}"
 
 
 def requirements_of(options):

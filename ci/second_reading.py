@@ -250,7 +250,7 @@ def check_buckets(protected, unprotected, after, understood=()):
 
 # Keys (RFC 9052 section 7, RFC 9053 section 7)
 
-EC2, SYMMETRIC = 2, 4
+OKP, EC2, SYMMETRIC = 1, 2, 4
 # the bytes of a coordinate on P-256, P-384 and P-521
 COORDINATE_BYTES = {1: 32, 2: 48, 3: 66}
 VERIFY, MAC_CREATE, MAC_VERIFY = 2, 9, 10
@@ -307,6 +307,47 @@ def key_of(item):
     if -4 in pairs:
         member(-4, is_bytes)
     return key
+
+
+# the bytes of a public key on Ed25519 and Ed448 (RFC 8032 sections 5.1.5 and 5.2.5)
+PUBLIC_KEY_BYTES = {6: 32, 7: 57}
+
+
+def okp_key_of(item):
+    """The public key of the type OKP on a curve of EdDSA that an item is (RFC 9053 section 7.2)."""
+    pairs = read_map(item, KEY_FORMS)
+    demand(1 in pairs, Reason.BadValue, item.place)
+    demand(name_of(pairs, 1) == OKP, Reason.UnknownKey, item.place)
+    listed = pairs[4][1].children if 4 in pairs else None
+    operations = None if listed is None else [it.integer() for it in listed]
+    demand(-1 in pairs, Reason.BadValue, item.place)
+    curve = pairs[-1][1]
+    number = curve.integer()
+    demand(is_integer_or_text(curve), Reason.BadValue, curve.place)
+    demand(number in PUBLIC_KEY_BYTES, Reason.UnknownKey, item.place)
+    demand(-2 in pairs, Reason.BadValue, item.place)
+    x = pairs[-2][1]
+    demand(is_bytes(x) and x.argument == PUBLIC_KEY_BYTES[number], Reason.BadValue, x.place)
+    if -4 in pairs:
+        demand(is_bytes(pairs[-4][1]), Reason.BadValue, pairs[-4][1].place)
+    return Key(OKP, content_of(pairs, 2), name_of(pairs, 3), operations, curve=number, x=x.content())
+
+
+def read_okp_key(data):
+    """The public key of the type OKP that some bytes are."""
+    return okp_key_of(read_whole(data, 0, len(data), KEY_NESTING))
+
+
+def read_okp_keys(data):
+    """The public keys of the type OKP in a key set. An item that is none is ignored."""
+    keys = []
+    item = read_whole(data, 0, len(data), KEY_NESTING)
+    for element in [item] if item.major == MAP else item.children:
+        try:
+            keys.append(okp_key_of(element))
+        except Refused:
+            pass
+    return keys
 
 
 def read_key(data):
@@ -405,6 +446,38 @@ def choose_key(keys, kind, protected, unprotected, place):
     demand(fitting or alg is not None, Reason.NoAlg, place)
     demand(fitting or inside is not None, Reason.AlgUnprotected, place)
     demand(fitting, Reason.NoKey, place)
+    return fitting[0]
+
+
+# the signature algorithms that are left to the caller, each with the curves that it takes, and the bytes of a signature on them (RFC
+# 9053 section 2.2, RFC 9864 section 2.2, RFC 8032 sections 5.1.6 and 5.2.6)
+FURTHER = {-8: (6, 7), -19: (6,), -53: (7,)}
+SIGNATURE_BYTES = {6: 64, 7: 114}
+
+
+def choose_further_key(keys, kind, protected, unprotected, place):
+    """The one key of the type OKP that fits, and its algorithm's number."""
+    inside, outside = name_of(protected, ALG), name_of(unprotected, ALG)
+    stated = outside if inside is None else inside
+    demand(stated is None or kind == "sign1" and stated in FURTHER, Reason.UnknownAlg, place)
+    asked = content_of(protected | unprotected, KID)
+    fitting = []
+    for key in keys:
+        with_alg = key.alg if inside is None else inside
+        fits = (
+            kind == "sign1"
+            and key.curve in FURTHER.get(with_alg, ())
+            and key.alg in (None, with_alg)
+            # the unprotected bucket's counts only where the key names it too
+            and not (inside is None and outside is not None and key.alg != outside)
+            and (key.operations is None or VERIFY in key.operations)
+            and (None in (key.kid, asked) or key.kid == asked)
+        )
+        if fits:
+            fitting.append((key, with_alg))
+    demand(len(fitting) <= 1, Reason.AmbiguousKey, place)
+    if not fitting:
+        raise Refused(Reason.NoAlg if stated is None else Reason.AlgUnprotected if inside is None else Reason.NoKey, place)
     return fitting[0]
 
 

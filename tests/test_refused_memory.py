@@ -17,6 +17,7 @@ TOKEN = mac0(cbor(CLAIMS)).encoded()
 # claims that confirm the point under the identifier `1`
 CONFIRMING = mac0(b"\xa1\x08\xa2\x03\x41\x31\x01" + bytes.fromhex(POINT[1])).encoded()
 CONFIRMED = f"admitted\ncnf key 1 {32 * '11'} {32 * '22'}\ncnf kid 31"
+CONFIRMATION = f"\nclaim 8: {{3: h'31', 1: {{1: 2, -1: 1, -2: h'{32 * '11'}', -3: h'{32 * '22'}'}}}}"
 SHOWN = "shape mac0 payload 2 auth 32 taken 44\nprotected 01 05"
 MAKE, KEY = "make --alg 5 --length 2", ["--key", KEYS[1]]
 NOW = "cwt --now 1444064943"
@@ -29,6 +30,8 @@ RUNS = {
         (["--keys", "zz"], b"", "fault line keys"),
         ([*OWN, "--algs=-7,4,5", "--least-secret", "4"], MESSAGE, AUTHENTIC),
         ([*OWN, "--algs=-7,4,3"], b"", "fault line algs"),
+        ([*KEYS, "--header", "1", "--header=-8", "--header=x"], MESSAGE, AUTHENTIC + '\nprotected 1: 5\nabsent -8\nabsent "x"'),
+        ([*KEYS, "--header", "4a"], b"", "fault line header"),
         ([*KEYS, "--aad", "0102"], MESSAGE, "refused BadAuth at 10"),
         ([*KEYS, "--aad", "zz"], b"", "fault line aad"),
         ([*KEYS, "--kind", "mac0"], MESSAGE, AUTHENTIC),
@@ -67,6 +70,7 @@ RUNS = {
     NOW: [
         (KEYS, TOKEN, ADMITTED),
         (KEYS, CONFIRMING, CONFIRMED),
+        ([*KEYS, "--claims", "all"], CONFIRMING, CONFIRMED + CONFIRMATION),
         (KEYS, TOKEN + b"\xff", "refused message Trailing at 123"),
         ([*KEYS, "--aad", "", "--kind", "mac0", "--leeway", "1", "--aud", "other"], TOKEN, "refused claims WrongAudience at 32"),
         ([*KEYS, "--require", "cti", "--require", "exp", "--require-aud", "--sub", "erikw"], TOKEN, ADMITTED),

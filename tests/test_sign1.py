@@ -217,10 +217,13 @@ def of_claims(pair):
         "max-age": [("--max-age 500", admitted), ("--max-age 499", age), ("--max-age 495 --leeway 5", admitted),
                     ("--leeway 5 --max-age 494", age)],
         "text": [("", admitted), ("--text", dated)],
+        "claims": [("", admitted), ("--claims all", admitted)],
     }
     words = {option: [(it.split(), token, text) for it, text in several] for option, several in cases.items()}
     words["require-aud"].append((["--require-aud"], few, "refused policy PresentAud at 0"))
     words["require"].append((["--require=cti"], few, "refused policy PresentCti at 0"))
+    other = signed(pair, cbor({4: 2000, "scope": "a\n"}), tags=CWT).encoded()
+    words["claims"] += [(["--claims=all"], other, 'admitted\nexp 2000\nclaim "scope": "a\\u000a"'), ([], other, "admitted\nexp 2000")]
     return {option: [([*keys(public(pair)), *([] if "--now" in it else ["--now", "1500"]), *it], given, text)
                      for it, given, text in several] for option, several in words.items()}
 
@@ -314,9 +317,9 @@ class Options(Pairs):
         }
 
     def of_payloads(self):
-        """Those of payloads, which `verify` alone has."""
-        pair = self.pairs[0][0]
-        whole, apart, key = signed(pair), signed(pair, is_detached=True), keys(public(pair))
+        """Those that `verify` alone has: of payloads, and of header parameters."""
+        pair, other = self.pairs[0]
+        whole, apart, key, wrong = signed(pair), signed(pair, is_detached=True), keys(public(pair)), keys(public(other))
         only, more = self.put("only", PAYLOAD), self.put("more", PAYLOAD + b" and more")
 
         def tried(option, good, wrong, *others):
@@ -328,6 +331,8 @@ class Options(Pairs):
             "payload-file": tried("--payload-file", only, more),
             "payload-length": tried("--payload-length", str(len(PAYLOAD)), str(len(PAYLOAD) - 1), "--payload-file", more),
             "payload-to": [([*key, "--payload-to", "new"], whole.encoded(), text) for text in (whole.authentic(), "fault file payload-to")],
+            "header": [([*keys_of, "--header", "1", "--header=4"], whole.encoded(), text)
+                       for keys_of, text in ((key, f"{whole.authentic()}\nprotected 1: {pair.curve.alg}\nabsent 4"), (wrong, whole.bad_auth()))],
         }
 
     def try_options(self, command, options, *others):

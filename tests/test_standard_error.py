@@ -279,6 +279,8 @@ class StandardError(Case):
         other = "cosecmd: `make` takes --key or --key-file, which has one key; --keys and --keys-file are options of other commands\n"
         dash = of_file("keys-file", "can't be used: there is no such file or folder\n") \
             + "cosecmd: a path of `-` names no stream here; /dev/stdin names standard input\n"
+        label = "cosecmd: --header takes a label: an integer from -2^63 to 2^63 - 1, or a text; one that begins as a number or with a quote is " \
+            "in quotes, as `show --diagnostic` writes it\n"
         algs = "cosecmd: --algs takes numbers of algorithms, joined by commas; its part {} is none\n"
         for words, said in [
             (["verify", "--key-file", "key"], of_make),
@@ -288,6 +290,8 @@ class StandardError(Case):
             ([*VERIFY, "--algs", "5,HS256"], algs.format(2)),
             ([*VERIFY, "--algs", "x"], algs.format(1)),
             ([*VERIFY, "--algs=5,,6"], algs.format(2)),
+            ([*VERIFY, "--header", "4a"], label),
+            ([*VERIFY, "--header", "4", '--header="x'], label),
             (["cwt", "--now", "0", "--keys", "f6"], of_argument("keys", NO_KEY)),
         ]:
             self.expect(words, MESSAGE, None, 2, said)

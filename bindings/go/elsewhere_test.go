@@ -193,7 +193,7 @@ func knownOf(v *cose.Elsewhere) (string, error) {
 	}
 	var material []byte
 	if key != nil && key.Point != nil {
-		material = key.Point.X
+		material = key.Point.Key.X
 	} else if key != nil {
 		material = key.K
 	}

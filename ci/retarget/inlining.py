@@ -48,7 +48,6 @@ APART = {
 }
 # what is long, since there are no vectors
 OUT_OF_LINE = {
-    "core::cmp::bytes::read_u64_be",
     "core::slice::scan::ByteMismatchLaneTest::marks",
 }
 # what has a value as large as a store on its stack: it is not made smaller at the cost of copies
