@@ -371,8 +371,8 @@ pub(crate) fn verdict_of_answer<'k, const H: usize, const D: usize>(
 ) -> CoseVerdict
     ensures unasked { wants_answer content.old ≡ false
         → (result ≡ no_message (status_unasked content.old)) × (content.new ≡ content.old) }
-    ensures verdict { WhateverRead content.old (λ setting taken _. wants_answer content.old ≡ true
-        → result ≡ verdict_numbers always_authentic 0
+    ensures verdict { WhateverRead content.old (λ setting taken _.
+        wants_answer content.old ≡ true → result ≡ verdict_numbers always_authentic 0
         (verdict_by H D setting (stated_answer is_good) taken)) }
     ensures kept { wants_answer content.old ≡ true → Keeps result content.new }
     ensures same_task { task_by content.new ≡ task_by content.old }

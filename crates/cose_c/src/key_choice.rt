@@ -158,9 +158,11 @@ fn take<'k, const H: usize, const D: usize, K: Keys<'k>>(
         ≡ status_of_reading
         (message_read (rules_of H D (to_inspect (setting_in verifier.old))) message.now) }
     ensures protected { protected_of verifier.new
-        ≡ (message_read (rules_of H D (to_inspect (setting_in verifier.old))) message.now).so_far.protected }
+        ≡ (message_read (rules_of H D (to_inspect (setting_in verifier.old)))
+        message.now).so_far.protected }
     ensures unprotected { unprotected_of verifier.new
-        ≡ (message_read (rules_of H D (to_inspect (setting_in verifier.old))) message.now).so_far.unprotected }
+        ≡ (message_read (rules_of H D (to_inspect (setting_in verifier.old)))
+        message.now).so_far.unprotected }
 {
     // The law that the proof cites.
     settled_stays();

@@ -128,13 +128,14 @@ pub extern "C" fn cose_edge_make_sign1(
     ensures fault { (fault : CoseMade)
         → sign1_fault (signature_numbered alg) kid.now aad.now payload_length ≡ Some fault
         → (made.new ≡ fault) × (signer.new.value.content ≡ None) }
-    ensures making { (found : Alg) → signature_numbered alg ≡ Some found → made.new.status ≡ 0
+    ensures making { (found : Alg) → signature_numbered alg ≡ Some found
+        → made.new.status ≡ 0
         → SignsIn found aad.now payload_length [] signer.new.value.content }
-    ensures front { (found : Alg) → signature_numbered alg ≡ Some found → made.new.status ≡ 0
-        → take made.new.length head.new
+    ensures front { (found : Alg) → signature_numbered alg ≡ Some found
+        → made.new.status ≡ 0 → take made.new.length head.new
         ≡ front_under Sign1 (protected_made found) (kid_given kid.now) payload_length }
-    ensures counted { (found : Alg) → signature_numbered alg ≡ Some found → made.new.status ≡ 0
-        → made.new.length
+    ensures counted { (found : Alg) → signature_numbered alg ≡ Some found
+        → made.new.status ≡ 0 → made.new.length
         ≡ length (front_under Sign1 (protected_made found) (kid_given kid.now) payload_length) }
     ensures reason { made.new.status ≡ 0 → made.new.reason ≡ 0 }
     // Where nothing is made, the block has no message, and arguments without a fault lack room alone.
@@ -297,7 +298,8 @@ pub extern "C" fn cose_edge_make_sign1_digest(
         → SignsIn alg aad (length payload) payload signer.new.value.content }
     ensures asks { (alg : Alg) (aad payload : List ℕ)
         → SignsIn alg aad (length payload) payload signer.old.value.content
-        → length (digest_to_sign alg aad payload) ≤ length digest.old → made.new.status ≡ 7 }
+        → length (digest_to_sign alg aad payload) ≤ length digest.old
+        → made.new.status ≡ 7 }
 {
     *made = ask(&mut signer.lend().content, digest);
 }

@@ -81,7 +81,8 @@ pub fn answer<F: NamedFiles, N: NewFiles, R: Read, W: Write>(
     ensures fails { (bytes : List ℕ) (payload : Option (List ℕ))
         → R.remaining input.old ≡ Some bytes →
         payload_for (F.content files.now) request.entry.now ≡ Some payload →
-        makes request.entry.now ≡ false → is_sequence request.entry.now ≡ false → result ≡ 2 →
+        makes request.entry.now ≡ false →
+        is_sequence request.entry.now ≡ false → result ≡ 2 →
         Fails (asked_for request.entry.now payload bytes) (W.contents output.old)
         (W.contents output.new) }
     // `make` prints a fault's line alone, or a prefix of the message, which no line follows.

@@ -24,7 +24,8 @@ pub extern "C" fn cose_edge_large_open_elsewhere(
     wanted: u8,
     status: &mut CoseStatus,
 )
-    ensures status { status.new ≡ opening_status (setting_given (keys_of keys.now) aad.now wanted) }
+    ensures status { status.new
+        ≡ opening_status (setting_given (keys_of keys.now) aad.now wanted) }
     ensures opened { IsOpenedElsewhere (setting_given (keys_of keys.now) aad.now wanted)
         verifier.new.value.content }
     ensures next { verifier.new.value.message ≡ following verifier.old.value.message }
@@ -44,7 +45,8 @@ pub extern "C" fn cose_edge_large_open_elsewhere_detached(
     payload_length: u64,
     status: &mut CoseStatus,
 )
-    ensures status { status.new ≡ opening_status (setting_given (keys_of keys.now) aad.now wanted) }
+    ensures status { status.new
+        ≡ opening_status (setting_given (keys_of keys.now) aad.now wanted) }
     ensures opened { IsOpenedElsewhere
         (detached_given payload_length (setting_given (keys_of keys.now) aad.now wanted))
         verifier.new.value.content }
@@ -113,7 +115,8 @@ pub extern "C" fn cose_large_asked_signature(
     verifier: &mut CoseLargeVerifier,
     signature: &mut CoseAskedSignature,
 ) -> u8
-    ensures signature { result ≡ 1 → WhateverRead verifier.old.value.content (λ setting taken _.
+    ensures signature { result ≡ 1
+        → WhateverRead verifier.old.value.content (λ setting taken _.
         GivesSignature (message (uncompared 65535 16 setting) taken).answer signature.new) }
     ensures none { result ≡ 0 → signature.new ≡ signature.old }
     ensures same { verifier.new.value.content ≡ verifier.old.value.content }

@@ -50,7 +50,8 @@ impl Checks {
     /// The context of a token, whose payload has at most `L` bytes.
     pub fn token_context<'j, const L: usize, S: Keys<'j>>(&'j self, keys: S) -> Context<'j, S>
         ensures setting { setting_of S.usable result
-            ≡ token_setting L (S.usable keys) (under_of self.entry.now).aad self.entry.now.wanted }
+            ≡ token_setting L (S.usable keys) (under_of self.entry.now).aad
+            self.entry.now.wanted }
         ensures external { length result.aad.now ≤ 65535 }
     {
         token_context::<L, _>(keys, self.aad.as_slice(), self.wanted)

@@ -92,7 +92,8 @@ pub fn answer_make<R: Read, W: Write>(
         StopsMaking (made_for words.now) bytes (W.contents output.old) (W.contents output.new) }
     // Where the key or another argument is at fault, it reads nothing, and prints the line of this fault, unless there is no memory
     // for it.
-    ensures unread { (fault : Fault) → making_fault words.now ≡ Some fault → input.new ≡ input.old }
+    ensures unread { (fault : Fault) → making_fault words.now ≡ Some fault
+        → input.new ≡ input.old }
     ensures line { (fault : Fault) → making_fault words.now ≡ Some fault → (result ≡ 2)
         × (WritesLine fault (W.contents output.old) (W.contents output.new)
         ⊎ WritesLine Fault.Memory (W.contents output.old) (W.contents output.new)) }

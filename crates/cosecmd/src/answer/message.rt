@@ -300,7 +300,8 @@ fn reply_with_file<I: Intake, R: Read>(
 ) -> Result<Reply, Fault>
     requires sound { ⟦<PayloadFile<R> as Intake>⟧.has_failed payload.old ≡ false }
     ensures says { (bytes content : List ℕ) → I.to_come intake.old ≡ Some bytes →
-        ⟦<PayloadFile<R> as Intake>⟧.to_come payload.old ≡ counted payload_length (Some content)
+        ⟦<PayloadFile<R> as Intake>⟧.to_come payload.old
+        ≡ counted payload_length (Some content)
         → IfOk result
         (Says (answered_from question.now (under_of checks.now) payload_length content bytes)) }
     ensures keys { FailsForKeys (under_of checks.now).keys result }

@@ -78,7 +78,8 @@ fn reply_into<const H: usize, const D: usize, const N: usize, I: Intake, S: Sink
     requires some_keys { 1 ≤ N }
     requires keys_limit { N ≤ 256 }
     requires sizes { AreSizesUnder checks.now.limits H D N }
-    ensures says { RepliesTo (I.to_come intake.old) (verified_under (under_of checks.now) None) result }
+    ensures says { RepliesTo (I.to_come intake.old)
+        (verified_under (under_of checks.now) None) result }
     ensures payload { PutsPayload (I.to_come intake.old) (payload_under (under_of checks.now))
         (S.contents sink.old) (S.contents sink.new) result }
 {
@@ -99,7 +100,8 @@ fn reply_in_room<I: Intake, S: Sink>(
     intake: &mut I,
     sink: &mut S,
 ) -> Result<Reply, Fault>
-    ensures says { RepliesTo (I.to_come intake.old) (verified_under (under_of checks.now) None) result }
+    ensures says { RepliesTo (I.to_come intake.old)
+        (verified_under (under_of checks.now) None) result }
     ensures payload { PutsPayload (I.to_come intake.old) (payload_under (under_of checks.now))
         (S.contents sink.old) (S.contents sink.new) result }
 {
@@ -120,7 +122,8 @@ fn reply_written<N: Write, R: Read>(
     file: &mut N,
     input: &mut R,
 ) -> Result<Reply, Fault>
-    ensures says { RepliesTo (R.remaining input.old) (verified_under (under_of checks.now) None) result }
+    ensures says { RepliesTo (R.remaining input.old)
+        (verified_under (under_of checks.now) None) result }
     ensures payload { PutsPayload (R.remaining input.old) (payload_under (under_of checks.now))
         (N.contents file.old) (N.contents file.new) result }
 {
