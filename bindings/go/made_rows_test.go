@@ -6,9 +6,28 @@ import (
 	"bytes"
 	"errors"
 	"fmt"
+	"io"
 
 	"cose"
 )
+
+// written passes a payload on in pieces of so many bytes, and returns how many of its bytes aren't used.
+func written(maker io.Writer, payload []byte, size int) (left int, err error) {
+	left = len(payload)
+	for at := 0; err == nil && at < len(payload); at += size {
+		end := at + size
+		if end > len(payload) {
+			end = len(payload)
+		}
+		var used int
+		used, err = maker.Write(payload[at:end])
+		left -= used
+	}
+	if errors.Is(err, cose.ErrTooLong) {
+		err = nil
+	}
+	return left, err
+}
 
 func runMade(g *group, r *row) error {
 	if r.KID != nil && len(*r.KID) == 0 {
@@ -27,17 +46,8 @@ func runMade(g *group, r *row) error {
 		var message bytes.Buffer
 		left := len(r.Payload)
 		maker, err := cose.NewMaker(&message, g.Key, length, options)
-		for at := 0; err == nil && at < len(r.Payload); at += size {
-			end := at + size
-			if end > len(r.Payload) {
-				end = len(r.Payload)
-			}
-			var used int
-			used, err = maker.Write(r.Payload[at:end])
-			left -= used
-		}
-		if errors.Is(err, cose.ErrTooLong) {
-			err = nil
+		if err == nil {
+			left, err = written(maker, r.Payload, size)
 		}
 		if err == nil {
 			err = maker.Close()

@@ -47,17 +47,8 @@ func signed(r *signedRow, size int) string {
 	var message bytes.Buffer
 	left := len(r.Payload)
 	maker, err := cose.NewSign1Maker(&message, length, options)
-	for at := 0; err == nil && at < len(r.Payload); at += size {
-		end := at + size
-		if end > len(r.Payload) {
-			end = len(r.Payload)
-		}
-		var used int
-		used, err = maker.Write(r.Payload[at:end])
-		left -= used
-	}
-	if errors.Is(err, cose.ErrTooLong) {
-		err = nil
+	if err == nil {
+		left, err = written(maker, r.Payload, size)
 	}
 	var digest []byte
 	if err == nil {
