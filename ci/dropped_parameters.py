@@ -18,7 +18,6 @@ def losses_of(folder, files):
 
 READ = "_read(keys, external, number, data, large)"
 DETACHED = "_read_detached(keys, external, number, data, content, large)"
-REFUSE = "_refuse_signature(keys, external, number, data, content, large)"
 CLAIMS = "claims(message.payload, now=policy[0], leeway=leeway, audience=audience, large=large)"
 SIGNED = "verify(keys, data, aad=external, wanted=wanted, ecdsa=ecdsa, large=large)"
 GIVEN = "policy_of(now, leeway, audience)"
@@ -56,10 +55,8 @@ PYTHON = losses_of(
             ("verify, detached: wanted", DETACHED, DETACHED.replace("number", "0")),
             ("verify, detached: payload", DETACHED, DETACHED.replace("content", 'b""')),
             ("verify, detached: large", DETACHED, DETACHED.replace("large", "False")),
-            ("verify: ecdsa", "if not is_good(SignInputStruct.from_buffer_copy(found, sizeof(VerdictStruct)), ecdsa):", "if False:"),
-            ("verify, a bad signature: wanted", REFUSE, REFUSE.replace("number", "0")),
-            ("verify, a bad signature: payload", REFUSE, REFUSE.replace("content", "None")),
-            ("verify, a bad signature: large", REFUSE, REFUSE.replace("large", "False")),
+            ("verify: ecdsa", "if not is_good(sign_input, ecdsa):", "if False:"),
+            ("verify, a bad signature: its place", "return Refused(Reason.BadAuth, sign_input.place)", "return Refused(Reason.BadAuth, 0)"),
             ("shape: wanted", "small.edge_shape(wanted_of(wanted),", "small.edge_shape(0,"),
             ("stated, protected: the bucket", "return self._parameter(label, 1)", "return self._parameter(label, 0)"),
             ("stated, unprotected: the bucket", "return self._parameter(label, 0)", "return self._parameter(label, 1)"),
@@ -183,10 +180,7 @@ JAVASCRIPT = losses_of(
             ("payload, signed: aad", "protectedOf(message), options.aad ?? new Uint8Array()", "protectedOf(message), new Uint8Array()"),
             ("payload: the promise of a signature", IS_GOOD_TOO, IS_GOOD_TOO.replace("await ", "")),
             ("payload, detached", "const payload = options.payload ?? ", "const payload = "),
-            ("a bad signature: options", "withBadSignature(keys, message, options)", "withBadSignature(keys, message, {})"),
-            ("a bad signature: large", "new Verifier(this, { large })", "new Verifier(this)"),
-            ("a bad signature: aad and wanted", "{ ...options, payloadLength", "{ payloadLength"),
-            ("a bad signature: payload", "payloadLength: payload?.length", "payloadLength: undefined"),
+            ("a bad signature: its place", "reason: BAD_AUTH, place }", "reason: BAD_AUTH, place: 0 }"),
             ("stated, authenticPayload: terms", UNDER, UNDER.replace(", terms", "")),
             ("stated, authenticPayload, signed: aad", "protectedOf(message), terms.aad ?? new Uint8Array()", "protectedOf(message), new Uint8Array()"),
             ("stated, authenticPayload: the detached payload", "const payload = terms.payload ?? ", "const payload = "),

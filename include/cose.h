@@ -176,6 +176,7 @@ struct cose_signature_input {
     uint8_t crv;             /**< the curve (RFC 9053 section 7.1): 1 P-256, 2 P-384, 3 P-521 */
     uint8_t y_sign;          /**< 0: y has its bytes. 1, 2: y is even, odd, and y_length is 0 */
     uint64_t x_length, y_length, digest_length, signature_length;
+    uint64_t place;          /**< where the signature's head is: COSE_REASON_BAD_AUTH is at this place, if it isn't good */
     uint8_t x[66], y[66];
     uint8_t digest[64];      /**< of the Sig_structure, by the hash function of the algorithm */
     uint8_t signature[132];  /**< the integers r and s, in this order (RFC 9053 section 2.1) */
@@ -432,7 +433,7 @@ COSE_ASSERT_(sizeof(struct cose_maker) == 8 && offsetof(struct cose_maker, at) =
 COSE_ASSERT_(sizeof(struct cose_signer) == 8 && offsetof(struct cose_signer, at) == 0, "struct cose_signer");
 COSE_ASSERT_(sizeof(struct cose_table) == 8 && offsetof(struct cose_table, at) == 0, "struct cose_table");
 COSE_ASSERT_(sizeof(struct cose_verifier) == 8 && offsetof(struct cose_verifier, at) == 0, "struct cose_verifier");
-COSE_ASSERT_(sizeof(struct cose_signature_input) == 368 && offsetof(struct cose_signature_input, signature) == 236, "struct cose_signature_input");
+COSE_ASSERT_(sizeof(struct cose_signature_input) == 376 && offsetof(struct cose_signature_input, signature) == 244, "struct cose_signature_input");
 COSE_ASSERT_(sizeof(struct cose_item) == 40 && offsetof(struct cose_item, major) == 33, "struct cose_item");
 COSE_ASSERT_(sizeof(struct cose_key_fit) == 16 && offsetof(struct cose_key_fit, place) == 8, "struct cose_key_fit");
 COSE_ASSERT_(sizeof(struct cose_key_set) == 24 && offsetof(struct cose_key_set, usable) == 16, "struct cose_key_set");

@@ -214,17 +214,6 @@ func claimsOrUnmet(data []byte, found *C.struct_cose_claims_set) (*Claims, error
 	return claimsOf(data[found.payload_at:end:end], found), nil
 }
 
-// refusedSignature is what a message is refused with whose signature of so many bytes isn't good: the head is before them.
-func refusedSignature(message []byte, length int) error {
-	for at, width := range []int{2, 3, 5, 9} {
-		place := len(message) - length - width
-		if place >= 0 && int(message[place]) == 0x58+at {
-			return &Refused{Reason: ReasonBadAuth, Place: uint64(place)}
-		}
-	}
-	return errOtherLibrary
-}
-
 func (t *Terms) orDefault() Terms {
 	if t == nil {
 		return Terms{}
@@ -240,7 +229,7 @@ func (t *Terms) authentic(answer *C.struct_sized_answer, message, payload []byte
 			return nil, err
 		}
 		if !good {
-			return nil, refusedSignature(message, int(answer.input.signature_length))
+			return nil, &Refused{Reason: ReasonBadAuth, Place: uint64(answer.input.place)}
 		}
 		answer.verdict.status = C.COSE_AUTHENTIC
 	}

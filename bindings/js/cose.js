@@ -58,7 +58,8 @@ const FIELDS = Object.freeze({
     cose_verifier: ["pointer at"],
     cose_signature_input: [
         "uint8_t crv", "uint8_t y_sign", "uint64_t x_length", "uint64_t y_length", "uint64_t digest_length",
-        "uint64_t signature_length", "uint8_t[66] x", "uint8_t[66] y", "uint8_t[64] digest", "uint8_t[132] signature",
+        "uint64_t signature_length", "uint64_t place", "uint8_t[66] x", "uint8_t[66] y", "uint8_t[64] digest",
+        "uint8_t[132] signature",
     ],
     cose_item: [
         "uint64_t at", "uint64_t length", "uint64_t content_at", "uint64_t number", "uint8_t present", "uint8_t major",
@@ -166,6 +167,7 @@ const STATED = typeof module === "object" ? module.require("./terms.js").Stated 
  * @property {Uint8Array} y
  * @property {Uint8Array} digest
  * @property {Uint8Array} signature
+ * @property {number} place where the signature's head is: BadAuth is at this place, if it isn't good
  */
 
 /**
@@ -273,7 +275,7 @@ class Cose {
         /** @param {string} name */
         const part = (name) => all[name].slice(0, all[`${name}_length`]);
         const [x, y, digest, signature] = ["x", "y", "digest", "signature"].map(part);
-        return { crv: all.crv, ySign: all.y_sign, x, y, digest, signature };
+        return { crv: all.crv, ySign: all.y_sign, x, y, digest, signature, place: all.place };
     }
 
     /**

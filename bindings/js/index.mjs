@@ -31,14 +31,10 @@ export class Refused extends Error {
 const BAD_AUTH = 28;
 
 /**
- * The place of the head of a signature of so many bytes, with which a message ends.
- * @param {Uint8Array} message
- * @param {number} length
+ * What a message is refused with whose signature isn't good.
+ * @param {{place: number}} input
  */
-function placeOfSignature(message, length) {
-    const widths = [2, 3, 5, 9].map((width, index) => ({ place: message.length - length - width, first: 0x58 + index }));
-    return widths.find(({ place, first }) => message[place] === first)?.place ?? 0;
-}
+const badSignature = ({ place }) => new Refused({ status: STATUS.REFUSED, reason: BAD_AUTH, place });
 
 /** The library. */
 export class Cose extends low.Cose {
@@ -57,7 +53,7 @@ export class Cose extends low.Cose {
         if (verdict.status !== STATUS.SIGNED) throw new Refused(verdict);
         const structure = sigStructure(protectedOf(message), options.aad ?? new Uint8Array(), payload);
         if (await isGoodSignature(input, structure)) return payload;
-        throw new Refused(this.withBadSignature(keys, message, options));
+        throw badSignature(input);
     }
 
     /**
@@ -91,7 +87,7 @@ export class Cose extends low.Cose {
         if (verdict.status !== STATUS.SIGNED) throw new Refused(verdict);
         const structure = sigStructure(protectedOf(message), terms.aad ?? new Uint8Array(), payload);
         if (await isGoodSignature(input, structure)) return payload;
-        throw new Refused({ status: STATUS.REFUSED, reason: BAD_AUTH, place: placeOfSignature(message, input.signature.length) });
+        throw badSignature(input);
     }
 
     /**
@@ -107,25 +103,6 @@ export class Cose extends low.Cose {
         const claims = this.admitClaims(payload, { ...others, now });
         if (claims.status !== STATUS.AUTHENTIC) throw new Refused(claims);
         return claims;
-    }
-
-    /**
-     * The verdict on a message whose signature isn't good.
-     * @param {Uint8Array | KeyTable} keys
-     * @param {Uint8Array} message
-     * @param {{aad?: Uint8Array, wanted?: number, large?: boolean, payload?: Uint8Array}} options
-     */
-    withBadSignature(keys, message, { payload, large, ...options }) {
-        const verifier = new Verifier(this, { large });
-        verifier.open(keys instanceof KeyTable ? keys.keys : keys, { ...options, payloadLength: payload?.length });
-        const { used } = verifier.feed(message);
-        if (payload) {
-            verifier.feedPayload(payload);
-            verifier.feed(message.subarray(used));
-        }
-        const verdict = verifier.verdict(false);
-        verifier.close();
-        return verdict;
     }
 }
 

@@ -58,6 +58,9 @@ function holds(test, input) {
     return isAsked ? said.holds : Boolean(said) && !said.holds;
 }
 
+/** The verdict on a message whose signature isn't good. */
+const badSignature = ({ place }) => ({ status: STATUS.REFUSED, reason: 28, place });
+
 const options = (group, large) => ({ aad: octets(group.aad), wanted: WANTED[group.wanted], large });
 
 // ---- messages
@@ -71,7 +74,7 @@ function inOneCall(keys, message, test, settings) {
         const payload = settings.payload ?? message.subarray(payloadAt, payloadAt + payloadLength);
         return ["authentic", KINDS[kind], alg, hex(payload), taken];
     }
-    return refused(verdict.status === STATUS.SIGNED ? cose.withBadSignature(keys, message, settings) : verdict);
+    return refused(verdict.status === STATUS.SIGNED ? badSignature(verdict.input) : verdict);
 }
 
 function expected(result, payload) {
@@ -259,7 +262,7 @@ function tokenAnswer(keys, token, test, settings, policy) {
     }
     const verdict = cose.verify(keys, token, settings);
     const isGood = verdict.status === STATUS.AUTHENTIC || (verdict.status === STATUS.SIGNED && holds(test, verdict.input));
-    if (!isGood) return refused(verdict.status === STATUS.SIGNED ? cose.withBadSignature(keys, token, settings) : verdict);
+    if (!isGood) return refused(verdict.status === STATUS.SIGNED ? badSignature(verdict.input) : verdict);
     const payload = token.subarray(verdict.payloadAt, verdict.payloadAt + verdict.payloadLength);
     return admitted(cose.claims(payload, { ...policy, large: settings.large }));
 }

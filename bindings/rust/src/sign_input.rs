@@ -165,6 +165,13 @@ impl SignInput {
         &self.raw.digest[..self.curve.digest_length()]
     }
 
+    /// The place of the signature's head, relative to the message's first byte: if the signature isn't good, the message is refused there
+    /// ([`Reason::BadAuth`](crate::Reason::BadAuth)).
+    #[must_use]
+    pub fn place(&self) -> u64 {
+        self.raw.place
+    }
+
     /// The signature: r, then s, each of the curve's length.
     #[must_use]
     pub fn signature(&self) -> &[u8] {

@@ -32,6 +32,7 @@ pub record GivesInput (signed : SignInput) (input : CoseSignInput) : Type 0 wher
   pub point : GivesPoint signed.key.material input
   pub digest : GivesWhole signed.digest input.digest input.digest_length
   pub signature : GivesWhole signed.signature input.signature input.signature_length
+  pub place : input.place ≡ signed.place
 
 -- The same of a message, if it has a signature. Where it has none, nothing is given.
 abbrev pub has_point : Option SignInput → Bool

@@ -24,6 +24,8 @@ pub struct CoseSignInput {
     pub digest_length: u64,
     /// How many bytes the signature has.
     pub signature_length: u64,
+    /// The place of the signature's head: there the message is refused as [`BadAuth`](cose_msg::Reason::BadAuth), if it isn't good.
+    pub place: u64,
     /// The coordinate x.
     pub x: [u8; 66],
     /// The coordinate y.
@@ -90,6 +92,7 @@ pub(crate) fn give_input<'k, const H: usize, const D: usize, K: Keys<'k>>(
     if !give_point(&key, input) {
         return false;
     }
+    input.place = verifier.signature_place().unwrap_or(0);
     input.digest_length = copy_all(digest, &mut input.digest);
     input.signature_length = copy_all(signature, &mut input.signature);
     true
@@ -104,6 +107,7 @@ pub(crate) fn blank_input() -> CoseSignInput {
         y_length: 0,
         digest_length: 0,
         signature_length: 0,
+        place: 0,
         x: [0; 66],
         y: [0; 66],
         digest: [0; 64],

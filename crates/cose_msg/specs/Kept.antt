@@ -26,7 +26,7 @@ abbrev pub is_inspecting : {H D : ℕ} {S : Type 0} {K : _} → Verifier H D S K
 is_inspecting v = v.inspecting
 
 abbrev pub verdict_in : Phase → Option Verdict
-verdict_in (phases.Decided verdict) = Some verdict
+verdict_in (phases.Decided p) = Some p.verdict
 verdict_in (phases.Settled verdict) = Some verdict
 verdict_in _ = None
 

@@ -1,5 +1,5 @@
 -- What is known of a phase of the code by its counts alone.
-use Rattle.std.specs.Prelude.{ℕ, Bool, true, false, not, List, ◌++◌, Option, Some, None}
+use Rattle.std.specs.Prelude.{ℕ, Bool, true, false, not, List, ◌++◌, Option, Some, None, is_some}
 use Rattle.cose_head.specs.Algorithm.{is_mac_of}
 use Rattle.cose_head.specs.declared.kind.Kind.{Kind}
 use Rattle.cose_msg.specs.declared.phase.Frame.{Frame}
@@ -25,12 +25,6 @@ abbrev pub awaits_decision : Phase → Bool
 awaits_decision (phases.Signed p) = true
 awaits_decision _ = false
 
--- Whether all bytes of a message with a signature are there.
-abbrev pub has_signature : Phase → Bool
-has_signature (phases.Signed p) = true
-has_signature (phases.Decided verdict) = true
-has_signature _ = false
-
 -- What is known of the structure that is authenticated, after the payload's head and before the verdict: the kind of the message
 -- and the number of the payload's bytes.
 abbrev pub framed : Kind → ℕ → Option Frame
@@ -43,6 +37,16 @@ frame_of (phases.AuthHead p) = framed p.kind p.payload
 frame_of (phases.Auth p) = framed p.kind p.payload
 frame_of (phases.Signed p) = framed p.kind p.payload
 frame_of _ = None
+
+-- The place of the head of the tag or signature, where all bytes are there and it is left to the caller.
+abbrev pub auth_place_of : Phase → Option ℕ
+auth_place_of (phases.Signed p) = Some p.head_at
+auth_place_of (phases.Decided p) = Some p.head_at
+auth_place_of _ = None
+
+-- Whether it is there.
+abbrev pub has_signature : Phase → Bool
+has_signature phase = is_some (auth_place_of phase)
 
 -- Whether the caller is asked about a signature.
 abbrev pub asks_signature : Phase → Bool

@@ -114,7 +114,7 @@ left_in rules known so_far v (phases.Auth p) more =
     auth rules known.headers known.chosen known.payload p.head_at p.length p.at (known.auth ++ more)
 left_in rules known so_far v (phases.Signed p) more =
     settled (headers_so_far known.headers known.payload) (complete (whole_of known p.head_at p.taken))
-left_in rules known so_far v (phases.Decided verdict) more = settled so_far (decided verdict)
+left_in rules known so_far v (phases.Decided p) more = settled so_far (decided p.verdict)
 left_in rules known so_far v (phases.Settled verdict) more = settled so_far (decided verdict)
 left_in rules known so_far v (phases.Shaped p) more = settled so_far (shaped p.kind p.payload p.auth p.taken)
 

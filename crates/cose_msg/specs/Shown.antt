@@ -1,6 +1,7 @@
 -- What a verifier gives of a message in addition to the result.
 use Rattle.std.specs.Prelude.{◌≡◌, ℕ, Bool, true, false, List, Option, Some, None, Ok, Err, option_map, if◌then◌else◌}
 use Rattle.std.specs.Borrow.{Bor}
+use Rattle.std.specs.Option.{unwrap_or}
 use Rattle.cose_head.specs.declared.kind.Kind.{Kind}
 use Rattle.cose_head.specs.declared.kind.Kind.TheVariants as kinds
 use Rattle.cose_map.specs.Bucket.{bucket_of}
@@ -17,17 +18,19 @@ use Rattle.cose_msg.specs.Answer.{Answer, Chosen, Whole, decided, complete, shap
 use Rattle.cose_msg.specs.Chosen.{chosen_value}
 use Rattle.cose_msg.specs.Hashing.{is_elsewhere, result_of}
 use Rattle.cose_msg.specs.Message.{Setting, digest_signed, message, comparing, uncompared}
-use Rattle.cose_msg.specs.Phase.{has_signature}
+use Rattle.cose_msg.specs.Phase.{auth_place_of}
 use Rattle.cose_msg.specs.Phases.{placed_at}
 use Rattle.cose_msg.specs.Reader.{held_by, opened_by}
 use Rattle.cose_msg.specs.Reading.{Reading}
 use Rattle.cose_msg.specs.Task.{Task, asks, rules_of}
 
 -- What a signature is verified with (RFC 9052 section 4.4): the key, the digest of the structure that was signed, and the signature.
+-- And the place of its head, where the message is refused as BadAuth if it isn't good.
 pub record SignInput : Type 0 where
   pub key : KeyValue
   pub digest : List ℕ
   pub signature : List ℕ
+  pub place : ℕ
 
 -- The pairs of each header bucket, once it was found good; and of a message with a signature, once all its bytes are there, what the
 -- signature is verified with. How many arrays, maps and tags of the unprotected bucket are open.
@@ -40,7 +43,7 @@ pub record Shown : Type 0 where
 -- ---- of a message
 
 abbrev pub signed_with : List ℕ → Whole → Chosen → SignInput
-signed_with aad whole found = record { key = found.key; digest = digest_signed aad found whole; signature = whole.auth }
+signed_with aad whole found = record { key = found.key; digest = digest_signed aad found whole; signature = whole.auth; place = whole.auth_at }
 
 -- It is given to no caller that has the digest itself.
 abbrev pub unless_elsewhere : Bool → Option SignInput → Option SignInput
@@ -95,15 +98,23 @@ protected_by {H} {D} v = pairs_at D v.protected_at v.protected.items
 abbrev pub unprotected_by : {H D : ℕ} → Reader H D → Option (List Pair)
 unprotected_by {H} {D} v = pairs_at D v.unprotected_at v.unprotected.items
 
-abbrev pub held_input : {H D : ℕ} → Reader H D → Option SignInput
-held_input v = unless_elsewhere (is_elsewhere v.hashing)
-    (option_map (λ found. record { key = found.key; digest = result_of v.hashing; signature = v.auth.items }) (option_map chosen_value v.chosen))
+abbrev pub held_input : {H D : ℕ} → Reader H D → ℕ → Option SignInput
+held_input v place = unless_elsewhere (is_elsewhere v.hashing)
+    (option_map (λ found. record { key = found.key; digest = result_of v.hashing; signature = v.auth.items; place = place }) (option_map chosen_value v.chosen))
 
-abbrev pub input_in : Phase → Option SignInput → Option SignInput
-input_in phase held = if has_signature phase then held else None
+abbrev pub from_place : (ℕ → Option SignInput) → Option ℕ → Option SignInput
+from_place held (Some place) = held place
+from_place held None = None
+
+abbrev pub input_in : Phase → (ℕ → Option SignInput) → Option SignInput
+input_in phase held = from_place held (auth_place_of phase)
 
 abbrev pub sign_input_by : {H D : ℕ} → Reader H D → Option SignInput
 sign_input_by v = input_in v.phase (held_input v)
+
+-- The place that it has, if there is one.
+abbrev pub signed_at : {H D : ℕ} → Reader H D → ℕ
+signed_at v = unwrap_or (auth_place_of v.phase) 0
 
 abbrev pub shown_by : {H D : ℕ} → Reader H D → Shown
 shown_by v = record {
@@ -124,6 +135,9 @@ unprotected_of v = unprotected_by v.reader
 abbrev pub sign_input_of : {H D : ℕ} {S : Type 0} {K : _} → Verifier H D S K → Option SignInput
 sign_input_of v = sign_input_by v.reader
 
+abbrev pub signed_place : {H D : ℕ} {S : Type 0} {K : _} → Verifier H D S K → ℕ
+signed_place v = signed_at v.reader
+
 abbrev pub shown_of : {H D : ℕ} {S : Type 0} {K : _} → Verifier H D S K → Shown
 shown_of v = shown_by v.reader
 
@@ -135,6 +149,10 @@ ShowsReading {H} {D} task taken v = shown_of v ≡ shown_in task (message (rules
 abbrev pub held : {H D : ℕ} {S : Type 0} {K : _} → Verifier H D S K → ℕ
 held v = held_by v.reader
 
--- What the code returns, without where it is in memory.
-abbrev pub input_value : Key × Bor (List ℕ) × Bor (List ℕ) → SignInput
-input_value input = record { key = key_value input.0; digest = contents input.1; signature = contents input.2 }
+-- What the code returns, without where it is in memory, with the place of the signature, which it returns apart.
+abbrev pub input_value : ℕ → Key × Bor (List ℕ) × Bor (List ℕ) → SignInput
+input_value place input = record { key = key_value input.0; digest = contents input.1; signature = contents input.2; place = place }
+
+abbrev pub place_of : SignInput → ℕ
+place_of signed = signed.place
+

@@ -179,6 +179,15 @@ pub(crate) struct Signed {
     pub(crate) taken: u64,
 }
 
+/// A message all of whose bytes are there, and whose signature was decided on.
+#[derive(Clone, Copy)]
+pub(crate) struct Decided {
+    /// The verdict.
+    pub(crate) verdict: Verdict,
+    /// The place of the head of the tag or signature.
+    pub(crate) head_at: u64,
+}
+
 /// A message that is only inspected, all bytes of which are there.
 #[derive(Clone, Copy)]
 pub(crate) struct Shape {
@@ -229,7 +238,7 @@ pub(crate) enum Phase {
     /// All bytes are there, and the signature is to be decided on.
     Signed(Signed),
     /// All bytes are there, and the signature was decided on.
-    Decided(Verdict),
+    Decided(Decided),
     /// The verdict is settled, and no signature was to be decided on.
     Settled(Verdict),
     /// All bytes of a message that is only inspected are there.
@@ -238,7 +247,7 @@ pub(crate) enum Phase {
 
 impl Phase {
     ghost use Rattle.std.specs.Prelude.{◌≡◌, false};
-    ghost use Rattle.cose_msg.specs.Phase.{ends_at, frame_of, is_settled, payload_want_of, want_of};
+    ghost use Rattle.cose_msg.specs.Phase.{auth_place_of, ends_at, frame_of, is_settled, payload_want_of, want_of};
     ghost use Rattle.cose_msg.specs.Status.{status_of_phase};
 
     /// Whether no further byte of the message is wanted, or none before bytes of a detached payload.
@@ -268,6 +277,17 @@ impl Phase {
             _ => return None,
         };
         Some(Frame { kind, payload })
+    }
+
+    /// The place of the head of the tag or signature, where all bytes are there and it is left to the caller.
+    pub(crate) fn auth_place(&self) -> Option<u64>
+        ensures { result ≡ auth_place_of self.now }
+    {
+        match *self {
+            Phase::Signed(signed) => Some(signed.head_at),
+            Phase::Decided(decided) => Some(decided.head_at),
+            _ => None,
+        }
     }
 
     /// How many bytes are to come for certain: those of a string that are left, one of a head, and none once the message is

@@ -96,7 +96,7 @@ cose_verifier
     address at
 cose_signature_input
     u8 crv y_sign
-    u64 x_length y_length digest_length signature_length
+    u64 x_length y_length digest_length signature_length place
     u8*66 x y
     u8*64 digest
     u8*132 signature

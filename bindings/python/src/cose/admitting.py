@@ -19,7 +19,7 @@ from ._library import (
     small,
 )
 from .keys import Keys, data_of
-from .messages import Message, refuse_signature
+from .messages import Message, bad_signature
 from .tokens import Claims, claims_of
 
 # what is permitted of keys where no algorithm is stated, and of tokens
@@ -134,7 +134,7 @@ def _message(
         calls.edge_authenticate_detached(stated, data, len(data), content, len(content), *answers)
     if verdict.status == Status.SIGNED:
         if not is_good(sign_input, ecdsa):
-            refuse_signature(data, sign_input.signature_length)
+            raise bad_signature(sign_input)
     elif verdict.status != Status.AUTHENTIC:
         fail(verdict)
     if content is None:

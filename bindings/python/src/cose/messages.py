@@ -5,7 +5,7 @@ from __future__ import annotations
 from ctypes import byref, sizeof
 from dataclasses import dataclass, field
 from enum import IntEnum
-from typing import Any, NoReturn, Optional, Tuple, Union
+from typing import Any, Optional, Tuple, Union
 
 from . import _calls, _library, cbor
 from ._answers import Ecdsa, fail, is_good
@@ -118,16 +118,9 @@ def _read_detached(
     return bytes(verdict) + bytes(sign_input)
 
 
-def refuse_signature(message: bytes, length: int) -> NoReturn:
-    """Raises what a message is refused with whose signature of so many bytes isn't good.
-
-    The signature ends the message, and its head is before it: no byte is read again.
-    """
-    for width, first in ((2, 0x58), (3, 0x59), (5, 0x5A), (9, 0x5B)):
-        place = len(message) - length - width
-        if message[place] == first:
-            raise Refused(Reason.BadAuth, place)
-    raise AssertionError("a signature of an authentic message has a head")
+def bad_signature(sign_input: SignInputStruct) -> Refused:
+    """What a message is refused with whose signature isn't good."""
+    return Refused(Reason.BadAuth, sign_input.place)
 
 
 def shape(message: Buffer, *, wanted: Optional[Kind] = None) -> Shape:
@@ -171,7 +164,7 @@ def verify(
     if status == _SIGNED:
         sign_input = SignInputStruct.from_buffer_copy(found, sizeof(VerdictStruct))
         if not is_good(sign_input, ecdsa):
-            refuse_signature(data, sign_input.signature_length)
+            raise bad_signature(sign_input)
     elif status != _AUTHENTIC:
         fail(VerdictStruct.from_buffer_copy(found))
     if content is None:

@@ -3,7 +3,7 @@
 ghost use Rattle.std.specs.Prelude.{◌≡◌, ◌<◌, ◌≤◌, ◌+◌, ◌*◌, ℕ, true, false, List, [], ◌++◌, None, Some, length, take};
 
 use crate::elliptic::EcVerifier;
-use crate::phase::{Phase, Signed};
+use crate::phase::{Decided, Phase, Signed};
 use crate::reader::Reader;
 use crate::verdict::{Inspected, Verdict};
 use cose_head::{Reason, Refusal};
@@ -30,7 +30,8 @@ impl<'k, const H: usize, const D: usize> Reader<'k, H, D> {
         ensures { result ≡ verdict_in self.now.phase }
     {
         match self.phase {
-            Phase::Decided(verdict) | Phase::Settled(verdict) => Some(verdict),
+            Phase::Decided(decided) => Some(decided.verdict),
+            Phase::Settled(verdict) => Some(verdict),
             _ => None,
         }
     }
@@ -199,7 +200,10 @@ impl<'k, const H: usize, const D: usize> Reader<'k, H, D> {
         match self.phase {
             Phase::Signed(signed) => {
                 let verdict = self.signed_verdict(signed, ec);
-                self.phase = Phase::Decided(verdict);
+                self.phase = Phase::Decided(Decided {
+                    verdict,
+                    head_at: signed.head_at,
+                });
                 verdict
             }
             _ => {

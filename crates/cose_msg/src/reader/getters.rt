@@ -3,7 +3,7 @@
 ghost use Rattle.std.specs.Prelude.{◌≡◌, ◌<◌, ◌≤◌, ◌+◌, ◌*◌, ◌^◌, IfSome, length, option_map};
 ghost use Rattle.cose_map.specs.Bucket.View.{bucket_pairs};
 ghost use Rattle.cose_msg.specs.Phase.{has_signature};
-ghost use Rattle.cose_msg.specs.Shown.{input_value, pairs_at, protected_by, sign_input_by, unprotected_by};
+ghost use Rattle.cose_msg.specs.Shown.{input_value, pairs_at, protected_by, place_of, sign_input_by, signed_at, unprotected_by};
 ghost use Rattle.cose_msg.specs.Reader.{held_by, opened_by};
 
 use crate::front_pieces::FrontPieces;
@@ -123,12 +123,12 @@ impl<'k, const H: usize, const D: usize> Reader<'k, H, D> {
     fn has_signature(&self) -> bool
         ensures { result ≡ has_signature self.now.phase }
     {
-        matches!(self.phase, Phase::Signed(_) | Phase::Decided(_))
+        self.phase.auth_place().is_some()
     }
 
     /// The key, the digest and the signature of a COSE_Sign1, once all bytes are there.
     pub(crate) fn sign_input(&self) -> Option<(Key<'k>, &[u8], &[u8])>
-        ensures value { option_map input_value result ≡ sign_input_by self.now }
+        ensures value { option_map (input_value (signed_at self.now)) result ≡ sign_input_by self.now }
         ensures digest { IfSome result (λ input. length input.1.now ≤ 64) }
         ensures signature { IfSome result (λ input. length input.2.now ≤ 132) }
     {
@@ -137,6 +137,16 @@ impl<'k, const H: usize, const D: usize> Reader<'k, H, D> {
         }
         match &self.chosen {
             Some(chosen) => Some((chosen.key, self.hashing.result(), self.auth.as_slice())),
+            None => None,
+        }
+    }
+
+    /// The place of the head of the signature of a COSE_Sign1, once all bytes are there.
+    pub(crate) fn signature_place(&self) -> Option<u64>
+        ensures { result ≡ option_map place_of (sign_input_by self.now) }
+    {
+        match self.sign_input() {
+            Some(_input) => self.phase.auth_place(),
             None => None,
         }
     }

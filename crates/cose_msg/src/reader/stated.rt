@@ -3,7 +3,7 @@
 ghost use Rattle.std.specs.Prelude.{◌≡◌, ◌≤◌, ◌+◌, ◌*◌, ℕ, true, false, List, [], ◌++◌, None, Some, length};
 ghost use Rattle.cose_msg.specs.Elsewhere.{stated_by};
 
-use crate::phase::{Phase, Signed};
+use crate::phase::{Decided, Phase, Signed};
 use crate::reader::Reader;
 use crate::verdict::Verdict;
 use cose_head::{Reason, Refusal};
@@ -93,7 +93,10 @@ impl<'k, const H: usize, const D: usize> Reader<'k, H, D> {
         match self.phase {
             Phase::Signed(signed) => {
                 let verdict = self.stated_verdict(signed, stated);
-                self.phase = Phase::Decided(verdict);
+                self.phase = Phase::Decided(Decided {
+                    verdict,
+                    head_at: signed.head_at,
+                });
                 verdict
             }
             _ => {

@@ -236,7 +236,7 @@ reads_on_unstated setting {H} {D} {B} {n} {v} {reading} h none e = open_without_
 pub reads_on_without_shape : (setting : Setting) {H D : ℕ} {B : List ℕ} {n : ℕ} {v : Reader H D} {reading : List ℕ → Reading} → ReaderMeans (to_inspect setting) B n v reading → inspected_in v.phase ≡ None → is_open (status_of_phase v.phase) ≡ true
 reads_on_without_shape setting {H} {D} {B} {n} {v} {reading} h none = open_without_shape setting h.known h.so_far n v v.phase h.holds none
 
-pub open_shows_no_input : (phase : Phase) (held : Option SignInput) → is_open (status_of_phase phase) ≡ true → input_in phase held ≡ None
+pub open_shows_no_input : (phase : Phase) (held : ℕ → Option SignInput) → is_open (status_of_phase phase) ≡ true → input_in phase held ≡ None
 open_shows_no_input phases.FirstHead held e = refl
 open_shows_no_input (phases.TagHead p) held e = refl
 open_shows_no_input (phases.ArrayHead p) held e = refl
@@ -304,7 +304,7 @@ module _ {H D : ℕ} (task : Task) (known : Known) (so_far : Findings) (n : ℕ)
   unfolding left here
   open_input phase h unsettled e = open_shows_no_input phase (held_input v) e ∙ sym (ap (sign_input_for (asks task) task.setting.aad) (truncated_in task known so_far n v waits phase h unsettled))
 
-  signed_input : (elsewhere : Bool) → asks task ≡ elsewhere → (p : Signed) → IsSigned task known v.chosen v.hashing v.auth.items p → held_input v ≡ sign_input_for (asks task) task.setting.aad (complete (whole_of known p.head_at p.taken))
+  signed_input : (elsewhere : Bool) → asks task ≡ elsewhere → (p : Signed) → IsSigned task known v.chosen v.hashing v.auth.items p → held_input v p.head_at ≡ sign_input_for (asks task) task.setting.aad (complete (whole_of known p.head_at p.taken))
   signed_input true away p s = rw (s.elsewhere_is, away) refl
   signed_input false is_here p s =
       let digest : digest_signed task.setting.aad s.found (whole_of known p.head_at p.taken) ≡ result_of v.hashing = no_mac s.found p.alg (structure task.setting.aad known.headers known.payload) (result_of v.hashing) s.alg_is (s.no_tag is_here) (s.digest_is is_here) in

@@ -107,7 +107,7 @@ known_is_decided (phases.Auth p) verdict known awaits = cc
 known_is_decided (phases.Shaped p) verdict known awaits = cc
 
 -- A phase that awaits no decision and has no verdict gives no signature.
-pub tells_no_input : (phase : Phase) (held : Option SignInput) → awaits_decision phase ≡ false → verdict_in phase ≡ None → input_in phase held ≡ None
+pub tells_no_input : (phase : Phase) (held : ℕ → Option SignInput) → awaits_decision phase ≡ false → verdict_in phase ≡ None → input_in phase held ≡ None
 tells_no_input phases.FirstHead held undecided none = refl
 tells_no_input (phases.TagHead p) held undecided none = refl
 tells_no_input (phases.ArrayHead p) held undecided none = refl
