@@ -30,6 +30,7 @@ pub mod Slice
 pub mod Further
 pub mod InMemory
 pub mod FurtherView
+pub mod FurtherLaws
 pub mod Store
 pub mod Lending
 pub mod Status
