@@ -6,6 +6,7 @@ mod WorkedDetached
 mod WorkedPayloads
 mod WorkedComparisons
 mod WorkedElsewhere
+mod WorkedFurther
 mod WorkedLimits
 mod WorkedShapes
 mod WorkedMaking

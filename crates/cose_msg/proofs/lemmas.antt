@@ -4,6 +4,8 @@ pub mod Deciding
 pub mod Detached
 pub mod Feeding
 pub mod Fronts
+pub mod FurtherAnswers
+pub mod InMemory
 pub mod Made
 pub mod Reader
 pub mod Reading

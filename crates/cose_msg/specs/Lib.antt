@@ -27,6 +27,10 @@ pub mod Intake
 pub mod SliceIntake
 pub mod Sink
 pub mod Slice
+pub mod Further
+pub mod InMemory
+pub mod FurtherView
+pub mod FurtherLaws
 pub mod Store
 pub mod Lending
 pub mod Status

@@ -3,6 +3,7 @@
 
 ghost use Rattle.cose_msg.specs.Elsewhere.{DecidedBefore, OtherMacIsRefused, StatedAnswerIsVerdict, StatedMacIsVerdict, VerdictIsInstance};
 ghost use Rattle.cose_msg.specs.Feed.{CutsDontMatter, PiecesJoin};
+ghost use Rattle.cose_msg.specs.FurtherLaws.{FurtherIsMessage, NoIsRefused, RefusedUnasked};
 ghost use Rattle.cose_msg.specs.GrammarLaws.{ArrayOfFourIsMessage, AuthenticIsMessage, MessageIsArrayOfFour, MessageIsRead, OneArrayOfFour};
 ghost use Rattle.cose_msg.specs.Maker.{MadeInParts};
 ghost use Rattle.cose_msg.specs.MakingLaws.{MadeIsAuthentic, SignedIsAuthentic};
@@ -209,4 +210,17 @@ pub fn key_stands_there()
 {
     // The law that the proof cites: the key that is chosen stands at its place.
     chosen_key_stands_there();
+}
+
+/// Bytes whose signature the caller verifies are authentic exactly where they are a message by the grammar, with the one OKP key
+/// that fits, whose signature is as long as the key's curve says, and the caller's verifier says that it is one of the message's
+/// Sig_structure (RFC 9052 section 4.4). Where it says no, they are refused as BadAuth. What is refused before it is asked, is
+/// refused whatever it would say.
+pub fn further_authentication_decides()
+    ensures authentic { FurtherIsMessage }
+    ensures no { NoIsRefused }
+    ensures unasked { RefusedUnasked }
+{
+    // The law that the proof cites: what is read as a whole message is one by the grammar.
+    unrefused_is_message();
 }

@@ -87,6 +87,7 @@ mod bare_head;
 mod context;
 mod elliptic;
 mod front_pieces;
+mod further;
 mod hashing;
 mod intake;
 pub mod laws;
@@ -105,9 +106,15 @@ mod verifier;
 pub use context::{Context, Wanted};
 pub use cose_head::{Kind, Reason, Refusal};
 pub use cose_mac::{Alg, same_bytes};
-pub use cose_map::{Bucket, Key, KeySet, KeyTable, Keys, Label, PreparedTable, Query};
+pub use cose_map::{
+    Bucket, FurtherAlg, Key, KeySet, KeyTable, Keys, Label, OkpCurve, OkpKey, PreparedTable, Query,
+};
 pub use elliptic::{EcVerifier, Never};
 pub use front_pieces::FrontPieces;
+pub use further::{
+    FurtherAsk, FurtherVerified, FurtherVerifier, ask_further, ask_further_detached,
+    verify_further, verify_further_detached,
+};
 pub use intake::{Intake, IntakeFault, ReadIntake, SliceIntake};
 pub use make::maker::Maker;
 pub use make::sign1_maker::{Sign1Maker, SignFault, Unsigned};

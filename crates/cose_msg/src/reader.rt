@@ -14,13 +14,13 @@ use cose_head::{Reason, Refusal, Walker};
 use cose_mac::Alg;
 use cose_map::{Key, Keys};
 
-mod auth;
+pub(crate) mod auth;
 pub(crate) mod choice;
 mod decide;
-mod front;
+pub(crate) mod front;
 mod getters;
-mod headers;
-mod payload;
+pub(crate) mod headers;
+pub(crate) mod payload;
 pub(crate) mod stated;
 
 /// The key that fits the message, and the algorithm that it is used with.

@@ -28,7 +28,7 @@ fn has_auth_length(alg: Option<Alg>, length: u64) -> bool
 }
 
 /// What is wrong with the head of a tag or signature under an algorithm.
-fn fault_of_auth(head: &Head, alg: Option<Alg>) -> Option<Reason>
+pub(crate) fn fault_of_auth(head: &Head, alg: Option<Alg>) -> Option<Reason>
     ensures value { result ≡ auth_fault_where (has_length_of alg) head.now }
     ensures limit { result ≡ None → head.now.arg ≤ 65535 }
 {

@@ -13,21 +13,21 @@ use cose_head::{Head, HeadStep, Kind, Reason};
 const CWT: u64 = 61;
 
 /// Whether a head is that of a tag.
-fn is_tag(head: &Head) -> bool
+pub(crate) fn is_tag(head: &Head) -> bool
     ensures { result ≡ spec.is_tag head.now }
 {
     head.major == 6
 }
 
 /// Whether a head is the tag of a CWT, where one is admitted.
-fn is_cwt_tag(is_admitted: bool, head: &Head) -> bool
+pub(crate) fn is_cwt_tag(is_admitted: bool, head: &Head) -> bool
     ensures { result ≡ spec.is_cwt_tag is_admitted head.now }
 {
     is_admitted && is_tag(head) && head.arg == CWT
 }
 
 /// Whether a head is that of an array.
-fn is_array(head: &Head) -> bool
+pub(crate) fn is_array(head: &Head) -> bool
     ensures { result ≡ spec.is_array head.now }
 {
     head.major == 4
@@ -44,7 +44,7 @@ fn wanted_kind(wanted: Wanted, kind: Kind) -> Result<Kind, Reason>
 }
 
 /// The kind of message that a tag identifies (RFC 9052 section 2, table 1).
-fn kind_of_tag(wanted: Wanted, number: u64) -> Result<Kind, Reason>
+pub(crate) fn kind_of_tag(wanted: Wanted, number: u64) -> Result<Kind, Reason>
     ensures { result ≡ spec.kind_of_tag wanted number }
 {
     match number {
@@ -57,7 +57,7 @@ fn kind_of_tag(wanted: Wanted, number: u64) -> Result<Kind, Reason>
 }
 
 /// The kind that a head after the CWT tag gives.
-fn cose_tag(wanted: Wanted, head: &Head) -> Result<Kind, Reason>
+pub(crate) fn cose_tag(wanted: Wanted, head: &Head) -> Result<Kind, Reason>
     ensures { result ≡ spec.tag_after_cwt wanted head.now }
 {
     if !is_tag(head) {
@@ -67,7 +67,7 @@ fn cose_tag(wanted: Wanted, head: &Head) -> Result<Kind, Reason>
 }
 
 /// What is wrong with the head of a message's array, which has four elements.
-fn fault_of_array(head: &Head) -> Option<Reason>
+pub(crate) fn fault_of_array(head: &Head) -> Option<Reason>
     ensures { result ≡ spec.array_head_fault head.now }
 {
     if !is_array(head) {

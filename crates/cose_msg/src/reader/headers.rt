@@ -80,7 +80,7 @@ impl<'k, const H: usize, const D: usize> Reader<'k, H, D> {
     }
 
     /// What is wrong with the protected bucket's head.
-    fn fault_of_protected(head: &Head) -> Option<Reason>
+    pub(crate) fn fault_of_protected(head: &Head) -> Option<Reason>
         ensures { result ≡ protected_fault_within H head.now }
     {
         if head.major != 2 {

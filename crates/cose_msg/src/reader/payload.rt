@@ -16,7 +16,7 @@ fn is_nil(head: &Head) -> bool
 }
 
 /// What is wrong with the payload's head, where a payload may have `limit` bytes.
-fn fault_of_payload(head: &Head, limit: u64) -> Option<Reason>
+pub(crate) fn fault_of_payload(head: &Head, limit: u64) -> Option<Reason>
     ensures { result ≡ payload_fault_within limit head.now }
 {
     if head.major == 2 {
@@ -33,7 +33,7 @@ fn fault_of_payload(head: &Head, limit: u64) -> Option<Reason>
 
 /// What is wrong with the head in the place of a detached payload, of which `stated` bytes are to come, where a payload may
 /// have `limit` bytes.
-fn fault_of_nil(head: &Head, stated: u64, limit: u64) -> Option<Reason>
+pub(crate) fn fault_of_nil(head: &Head, stated: u64, limit: u64) -> Option<Reason>
     ensures { result ≡ nil_fault_within limit stated head.now }
 {
     if is_nil(head) {
