@@ -209,6 +209,26 @@ struct cose_chosen_key {
     uint64_t y_length;
 };
 
+/** What an EdDSA signature is verified with (RFC 9053 section 2.2), of COSE_SIGNED: the structure that is signed is six pieces
+ * (struct cose_pieces), and then the payload. Its pointers lead into the caller's key set and message. */
+struct cose_eddsa_input {
+    uint8_t status, reason;
+    uint8_t crv;             /**< the curve (RFC 9053 section 7.1): 6 Ed25519, 7 Ed448 */
+    uint8_t has_kid;         /**< 1 where the key has an identifier */
+    int32_t alg;             /**< -8 EdDSA, -19 Ed25519, -53 Ed448 (RFC 9864 section 2.2) */
+    uint64_t place;          /**< the place of a refusal; of COSE_SIGNED where COSE_REASON_BAD_AUTH is, if the signature isn't good */
+    COSE_SLOT_(const uint8_t *kid); /**< the identifier of the key that was chosen */
+    uint64_t kid_length;
+    COSE_SLOT_(const uint8_t *x); /**< the public key (RFC 8032 sections 5.1.5 and 5.2.5) */
+    uint64_t x_length;
+    COSE_SLOT_(const uint8_t *header); /**< the third piece: the content of the protected header as received */
+    uint64_t header_length;
+    COSE_SLOT_(const uint8_t *payload);
+    uint64_t payload_length;
+    COSE_SLOT_(const uint8_t *signature); /**< as long as the curve says (RFC 8032 sections 5.1.6 and 5.2.6) */
+    uint64_t signature_length;
+};
+
 /** The signature of a message, as it was received. */
 struct cose_received_signature {
     uint64_t length;
@@ -425,6 +445,7 @@ COSE_ASSERT_(sizeof(struct cose_policy) == 32 && offsetof(struct cose_policy, au
 COSE_ASSERT_(sizeof(struct cose_range) == 24 && offsetof(struct cose_range, present) == 16, "struct cose_range");
 COSE_ASSERT_(sizeof(struct cose_date) == 16 && offsetof(struct cose_date, negative) == 9, "struct cose_date");
 COSE_ASSERT_(sizeof(struct cose_claims_set) == 264 && offsetof(struct cose_claims_set, cnf_y_sign) == 257, "struct cose_claims_set");
+COSE_ASSERT_(sizeof(struct cose_eddsa_input) == 96 && offsetof(struct cose_eddsa_input, signature_length) == 88, "struct cose_eddsa_input");
 COSE_ASSERT_(sizeof(struct cose_pieces) == 56 && offsetof(struct cose_pieces, payload_head) == 42, "struct cose_pieces");
 COSE_ASSERT_(sizeof(struct cose_chosen_key) == 72 && offsetof(struct cose_chosen_key, y_length) == 64, "struct cose_chosen_key");
 COSE_ASSERT_(sizeof(struct cose_received_signature) == 144 && offsetof(struct cose_received_signature, signature) == 8, "struct cose_received_signature");
@@ -623,6 +644,67 @@ static inline void cose_read_keys(const uint8_t *keys, size_t keys_length, struc
         return;
     }
     cose_edge_read_keys(cose_slice_(keys), keys_length, key_set);
+}
+
+void cose_edge_verify_eddsa(const uint8_t *keys, uint64_t keys_length, const uint8_t *aad, uint64_t aad_length, uint8_t kind,
+    const uint8_t *message, uint64_t message_length, struct cose_eddsa_input *input, struct cose_pieces *pieces);
+
+/** Reads a message in memory that is signed by EdDSA (RFC 9053 section 2.2), under the OKP keys of a key set. The bytes are the message, and
+ * nothing follows it. EdDSA hashes a part of the signature first, so no message that is fed can be verified by it.
+ *
+ * Of COSE_SIGNED the message is authentic only if input->signature is one by input->x of the six pieces, in the order of cose_front_piece
+ * with input->header, and then input->payload. Other statuses are those of cose_verify. */
+static inline void cose_verify_eddsa(const uint8_t *keys, size_t keys_length, const uint8_t *aad, size_t aad_length,
+    enum cose_kind_number kind, const uint8_t *message, size_t message_length, struct cose_eddsa_input *input, struct cose_pieces *pieces)
+{
+    if (cose_is_null_(keys, keys_length) || cose_is_null_(aad, aad_length) || cose_is_null_(message, message_length)) {
+        memset(input, 0, sizeof *input);
+        input->status = COSE_BAD_ARGUMENT;
+        return;
+    }
+    input->kid = cose_slice_(NULL);
+    input->kid_length = 0;
+    input->x = cose_slice_(NULL);
+    input->x_length = 0;
+    input->header = cose_slice_(NULL);
+    input->header_length = 0;
+    input->payload = cose_slice_(NULL);
+    input->payload_length = 0;
+    input->signature = cose_slice_(NULL);
+    input->signature_length = 0;
+    cose_edge_verify_eddsa(cose_slice_(keys), keys_length, cose_slice_(aad), aad_length, cose_kind_(kind), cose_slice_(message),
+        message_length, input, pieces);
+}
+
+void cose_edge_verify_eddsa_detached(const uint8_t *keys, uint64_t keys_length, const uint8_t *aad, uint64_t aad_length, uint8_t kind,
+    const uint8_t *message, uint64_t message_length, const uint8_t *payload, uint64_t payload_length, struct cose_eddsa_input *input,
+    struct cose_pieces *pieces);
+
+/** The same of a message whose payload is detached (RFC 9052 section 4.2), and is in memory too. */
+static inline void cose_verify_eddsa_detached(const uint8_t *keys, size_t keys_length, const uint8_t *aad, size_t aad_length,
+    enum cose_kind_number kind, const uint8_t *message, size_t message_length, const uint8_t *payload, size_t payload_length,
+    struct cose_eddsa_input *input, struct cose_pieces *pieces)
+{
+    if (cose_is_null_(keys, keys_length) ||
+        cose_is_null_(aad, aad_length) ||
+        cose_is_null_(message, message_length) ||
+        cose_is_null_(payload, payload_length)) {
+        memset(input, 0, sizeof *input);
+        input->status = COSE_BAD_ARGUMENT;
+        return;
+    }
+    input->kid = cose_slice_(NULL);
+    input->kid_length = 0;
+    input->x = cose_slice_(NULL);
+    input->x_length = 0;
+    input->header = cose_slice_(NULL);
+    input->header_length = 0;
+    input->payload = cose_slice_(NULL);
+    input->payload_length = 0;
+    input->signature = cose_slice_(NULL);
+    input->signature_length = 0;
+    cose_edge_verify_eddsa_detached(cose_slice_(keys), keys_length, cose_slice_(aad), aad_length, cose_kind_(kind), cose_slice_(message),
+        message_length, cose_slice_(payload), payload_length, input, pieces);
 }
 
 /* ---- One call over memory, under terms and requirements. */

@@ -41,6 +41,12 @@ const FIELDS = Object.freeze({
         "cose_date nbf", "cose_date iat", "cose_range cnf_kid", "cose_range cnf_x", "cose_range cnf_y",
         "uint8_t cnf_crv", "uint8_t cnf_y_sign",
     ],
+    cose_eddsa_input: [
+        "uint8_t status", "uint8_t reason", "uint8_t crv", "uint8_t has_kid", "int32_t alg", "uint64_t place",
+        "pointer kid", "uint64_t kid_length", "pointer x", "uint64_t x_length", "pointer header",
+        "uint64_t header_length", "pointer payload", "uint64_t payload_length", "pointer signature",
+        "uint64_t signature_length",
+    ],
     cose_pieces: [
         "uint64_t protected_length", "uint8_t context_length", "uint8_t protected_head_length",
         "uint8_t aad_head_length", "uint8_t payload_head_length", "uint8_t[12] context", "uint8_t[9] protected_head",

@@ -84,6 +84,27 @@ pub(crate) struct Claims {
     pub(crate) cnf_y_sign: u8,
 }
 
+/// What an `EdDSA` signature is verified with, where the status is [`SIGNED`](crate::numbers::SIGNED).
+#[repr(C)]
+pub(crate) struct EddsaInput {
+    pub(crate) status: u8,
+    pub(crate) reason: u8,
+    pub(crate) crv: u8,
+    pub(crate) has_kid: u8,
+    pub(crate) alg: i32,
+    pub(crate) place: u64,
+    pub(crate) kid: *const u8,
+    pub(crate) kid_length: usize,
+    pub(crate) x: *const u8,
+    pub(crate) x_length: usize,
+    pub(crate) header: *const u8,
+    pub(crate) header_length: usize,
+    pub(crate) payload: *const u8,
+    pub(crate) payload_length: usize,
+    pub(crate) signature: *const u8,
+    pub(crate) signature_length: usize,
+}
+
 /// What precedes the payload in the structure that is authenticated (RFC 9052 sections 4.4 and 6.3), in six pieces: the third is
 /// the content of the protected header as received, and the fifth the externally supplied data.
 #[repr(C)]
@@ -339,6 +360,15 @@ unsafe extern "C" {
     );
     pub(crate) fn cose_edge_audience(payload: *const u8, payload_length: usize, index: u64, audience: &mut Range);
     pub(crate) fn cose_edge_next_audience(payload: *const u8, payload_length: usize, place: u64, audience: &mut Range);
+    pub(crate) fn cose_edge_verify_eddsa(
+        keys: *const u8, keys_length: usize, aad: *const u8, aad_length: usize, wanted: u8, message: *const u8,
+        message_length: usize, input: &mut EddsaInput, pieces: &mut FrontPieces,
+    );
+    pub(crate) fn cose_edge_verify_eddsa_detached(
+        keys: *const u8, keys_length: usize, aad: *const u8, aad_length: usize, wanted: u8, message: *const u8,
+        message_length: usize, payload: *const u8, payload_length: usize, input: &mut EddsaInput,
+        pieces: &mut FrontPieces,
+    );
     pub(crate) fn cose_edge_large_open_elsewhere(
         verifier: &mut LargeVerifier, keys: *const u8, keys_length: usize, aad: *const u8, aad_length: usize,
         wanted: u8, status: &mut Status,

@@ -6,6 +6,7 @@ pub mod Terms
 pub mod Input
 pub mod Held
 pub mod Stream
+pub mod Eddsa
 pub mod Elsewhere
 pub mod Message
 pub mod Required

@@ -1,7 +1,7 @@
 //! A verifier in a block whose message the caller authenticates, since it has the hash or the key: for blocks of either size.
 
-ghost use Rattle.std.specs.Prelude.{◌≡◌, ◌≤◌, ◌⊎◌, true, false, length, List, ℕ, Some, Ok};
-ghost use Rattle.cose_map.specs.Key.View.{key_value, y_value};
+ghost use Rattle.std.specs.Prelude.{◌≡◌, ◌≤◌, ◌⊎◌, true, false, length, List, ℕ, Some, Ok, option_map};
+ghost use Rattle.cose_map.specs.Key.View.{contents, y_value};
 ghost use Rattle.cose_map.specs.KeySet.{keys_of};
 ghost use Rattle.cose_msg.specs.Elsewhere.{IsWhole, key_asked, stated_answer, stated_mac, verdict_by};
 ghost use Rattle.cose_msg.specs.Kept.{HasTaken};
@@ -179,10 +179,10 @@ pub(crate) fn front_pieces<'k, const H: usize, const D: usize>(
 }
 
 /// The identifier of a key, which has no bytes where there is none.
-fn kid_of<'k>(key: &Key<'k>) -> &'k [u8]
-    ensures { result.now ≡ octets_of (key_value key.now).kid }
+pub(crate) fn octets_of<'k>(kid: Option<&'k [u8]>) -> &'k [u8]
+    ensures { result.now ≡ octets_of (option_map contents kid.entry) }
 {
-    match key.kid {
+    match kid {
         Some(kid) => kid,
         None => &[],
     }
@@ -218,7 +218,7 @@ fn asked_key_of<'k>(key: &Key<'k>, alg: Alg) -> CoseAskedKey<'k>
         crv: 0,
         y_sign: 0,
         has_kid: if key.kid.is_some() { 1 } else { 0 },
-        kid: kid_of(key),
+        kid: octets_of(key.kid),
         k: &[],
         x: &[],
         y: &[],

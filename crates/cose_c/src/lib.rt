@@ -10,6 +10,7 @@ mod authenticate;
 mod claims;
 mod cose_claims;
 mod deciding;
+mod eddsa;
 mod elsewhere;
 mod held;
 mod input;

@@ -2,6 +2,7 @@
 
 ghost use Rattle.std.specs.Prelude.{◌≡◌, ◌≤◌, IfOk, length};
 ghost use Rattle.cose_map.specs.KeySet.{keys_of};
+ghost use Rattle.cose_map.specs.KeySet.Okp.{okp_keys, okp_keys_of};
 ghost use Rattle.cose_c.specs.Terms.{kinds_given, kinds_numbered, setting_given, settings_in};
 
 use crate::numbers::{
@@ -65,6 +66,7 @@ pub(crate) fn context<'k>(
     ensures setting { settings_in result
         ≡ setting_given (keys_of keys.entry.now) aad.entry.now wanted }
     ensures external { IfOk result (λ context. length context.aad.now ≤ 65535) }
+    ensures okp { IfOk result (λ context. okp_keys context.keys ≡ okp_keys_of keys.entry.now) }
 {
     let wanted = kinds_wanted(aad, wanted)?;
     let keys = match KeySet::read(keys) {

@@ -66,6 +66,13 @@ impl<'v> FrontPieces<'v> {
         &self.protected_head
     }
 
+    /// The third piece: the content of the protected header, as it was received.
+    pub fn protected(&self) -> &'v [u8]
+        ensures { result.now ≡ piece_at 2 (pieces_of self.now) }
+    {
+        self.protected
+    }
+
     /// The fourth piece: the external data's head.
     pub fn aad_head(&self) -> &ArrayVec<u8, 9>
         ensures { result.now.items ≡ piece_at 3 (pieces_of self.now) }

@@ -1,6 +1,6 @@
 //! Messages in memory whose signature the caller verifies: EdDSA, over OKP keys (RFC 9053 section 2.2, RFC 9864 section 2.2).
 
-ghost use Rattle.std.specs.Prelude.{◌≡◌, ◌≤◌, ◌++◌, Some, IfOk};
+ghost use Rattle.std.specs.Prelude.{◌≡◌, ◌≤◌, ◌++◌, Some, IfOk, length};
 ghost use Rattle.std.specs.List.{concat, slice_get};
 ghost use Rattle.cose_map.specs.Key.Okp.{okp_value};
 ghost use Rattle.cose_map.specs.KeySet.Okp.{okp_keys};
@@ -8,7 +8,7 @@ ghost use Rattle.cose_map.specs.KeySet.View.{keys as usable};
 ghost use Rattle.cose_msg.specs.Verifier.{setting_of};
 ghost use Rattle.cose_msg.specs.Further.{answered, asked_of, asked_of_whole, decided_by, detached_setting, further_of, trailing_of};
 ghost use Rattle.cose_msg.specs.FurtherView.{asked_result, asked_value, chosen_in, further_outcome, headers_in, setting_for, whole_in};
-ghost use Rattle.cose_msg.specs.FrontPieces.{pieces_of};
+ghost use Rattle.cose_msg.specs.FrontPieces.{piece_at, pieces_of};
 ghost use Rattle.cose_msg.specs.Message.{structure};
 
 mod decides;
@@ -43,7 +43,8 @@ pub struct FurtherAsk<'m> {
     pub payload: &'m [u8],
     /// The signature, as long as the key's curve says (RFC 8032 sections 5.1.6 and 5.2.6).
     pub signature: &'m [u8],
-    auth_at: u64,
+    /// The place of the signature's head, relative to the first byte of the message.
+    pub auth_at: u64,
     /// The place of the first byte after the message, if there is one.
     trailing: Option<u64>,
 }
@@ -89,8 +90,10 @@ impl<'m> FurtherAsk<'m> {
 
 /// The bytes of the structure before the payload.
 fn front_of<'m>(parts: &Parts<'m>, aad: &'m [u8]) -> FrontPieces<'m>
-    ensures { concat (pieces_of result) ++ parts.now.payload.now
+    ensures structure { concat (pieces_of result) ++ parts.now.payload.now
         ≡ structure aad.now (headers_in parts.now) parts.now.payload.now }
+    ensures context { length (piece_at 0 (pieces_of result)) ≤ 12 }
+    ensures external { piece_at 4 (pieces_of result) ≡ aad.now }
 {
     let is_bare = parts.protected.bucket.is_empty();
     let protected = empty_if(is_bare, parts.protected.content);
@@ -113,6 +116,8 @@ fn ask_of<'m>(parts: &Parts<'m>, aad: &'m [u8], count: u64) -> Result<FurtherAsk
         ≡ asked_of_whole count aad.now (whole_in parts.now) (chosen_in parts.now) }
     ensures place { IfOk result (λ ask. ask.place ≡ parts.now.found.place) }
     ensures key { IfOk result (λ ask. okp_value ask.key ≡ okp_value parts.now.found.key) }
+    ensures context { IfOk result (λ ask. length (piece_at 0 (pieces_of ask.front)) ≤ 12) }
+    ensures external { IfOk result (λ ask. piece_at 4 (pieces_of ask.front) ≡ aad.now) }
 {
     let signature = parts.signature;
     if signature.bytes.len() != parts.found.key.curve.signature_length() {
@@ -144,6 +149,10 @@ fn ask<'m, const H: usize, const D: usize>(
         (okp_keys context.now.keys) message.now ≡ Some (asked_result result) }
     ensures there { IfOk result (λ ask. slice_get (okp_keys context.now.keys) ask.place
         ≡ Some (okp_value ask.key)) }
+    // The first of the pieces is short, and the fifth is the external data.
+    ensures context { IfOk result (λ ask. length (piece_at 0 (pieces_of ask.front)) ≤ 12) }
+    ensures external { IfOk result (λ ask.
+        piece_at 4 (pieces_of ask.front) ≡ context.now.aad.now) }
 {
     match read_whole::<H, D>(context, detached, message) {
         Ok(parts) => ask_of(&parts, context.aad, message.len() as u64),
@@ -169,6 +178,10 @@ pub fn ask_further<'m, const H: usize, const D: usize>(
     // The key stands at its place.
     ensures there { IfOk result (λ ask. slice_get (okp_keys context.now.keys) ask.place
         ≡ Some (okp_value ask.key)) }
+    // The first of the pieces is short, and the fifth is the external data.
+    ensures context { IfOk result (λ ask. length (piece_at 0 (pieces_of ask.front)) ≤ 12) }
+    ensures external { IfOk result (λ ask.
+        piece_at 4 (pieces_of ask.front) ≡ context.now.aad.now) }
 {
     ask::<H, D>(context, None, message)
 }
@@ -185,6 +198,10 @@ pub fn ask_further_detached<'m, const H: usize, const D: usize>(
         (okp_keys context.now.keys) message.now ≡ Some (asked_result result) }
     ensures there { IfOk result (λ ask. slice_get (okp_keys context.now.keys) ask.place
         ≡ Some (okp_value ask.key)) }
+    // The first of the pieces is short, and the fifth is the external data.
+    ensures context { IfOk result (λ ask. length (piece_at 0 (pieces_of ask.front)) ≤ 12) }
+    ensures external { IfOk result (λ ask.
+        piece_at 4 (pieces_of ask.front) ≡ context.now.aad.now) }
 {
     ask::<H, D>(context, Some(payload), message)
 }

@@ -10,6 +10,7 @@ from ._arguments import Algorithm, Buffer, Kind
 from ._library import Status
 from .admitting import admit, admit_claims, authenticate
 from .choosing import ChosenKey, Mismatch, key_of, mismatches
+from .eddsa_messages import Eddsa, EddsaInput, eddsa, verify_eddsa
 from .elsewhere import AskedKey, Elsewhere
 from .errors import (
     ClaimsRefused,
@@ -43,6 +44,8 @@ __all__ = [
     "Confirmation",
     "ConfirmationKey",
     "Ecdsa",
+    "Eddsa",
+    "EddsaInput",
     "Elsewhere",
     "Error",
     "Fed",
@@ -74,6 +77,7 @@ __all__ = [
     "count_keys",
     "ecdsa",
     "ecdsa_signer",
+    "eddsa",
     "key_of",
     "make",
     "mismatches",
@@ -81,5 +85,6 @@ __all__ = [
     "sign1",
     "verify",
     "verify_cwt",
+    "verify_eddsa",
     "verify_many",
 ]

@@ -2,10 +2,11 @@
 
 from __future__ import annotations
 
+import ctypes
 from dataclasses import dataclass
-from typing import Any, Callable, Dict, NoReturn, Optional, Union
+from typing import Any, Callable, Dict, NoReturn, Optional, Tuple, Union
 
-from ._library import SignInputStruct, Status
+from ._library import FrontPiecesStruct, SignInputStruct, Status
 from .errors import ClaimsRefused, KeysRefused, Refused, Requirement, SignatureUnverified, Unmet
 from .reasons import Reason
 
@@ -58,6 +59,24 @@ def fail(answer: Any) -> NoReturn:
     raise error_of(answer)
 
 
+def octets_at(struct: ctypes.Structure, name: str) -> bytes:
+    """The bytes that a field of an answer leads to, which the caller still has."""
+    at = ctypes.c_void_p.from_buffer(struct, getattr(type(struct), name).offset).value
+    return ctypes.string_at(at, getattr(struct, f"{name}_length")) if at else b""
+
+
+def pieces_of(struct: FrontPiecesStruct, header: bytes, aad: bytes) -> Tuple[bytes, ...]:
+    """The six pieces before the payload, of which the caller has the third and the fifth."""
+    return (
+        bytes(struct.context[: struct.context_length]),
+        bytes(struct.protected_head[: struct.protected_head_length]),
+        header,
+        bytes(struct.aad_head[: struct.aad_head_length]),
+        aad,
+        bytes(struct.payload_head[: struct.payload_head_length]),
+    )
+
+
 def sign_input_of(struct: SignInputStruct) -> SignInput:
     """What a signature is verified with."""
     y = bytes(struct.y[: struct.y_length]) if struct.y_sign == 0 else struct.y_sign == 2
@@ -74,8 +93,14 @@ def is_good(struct: SignInputStruct, ecdsa: Optional[Ecdsa]) -> bool:
     """Whether a signature is good, as `ecdsa` says, which is asked once."""
     if ecdsa is None:
         raise SignatureUnverified()
-    answer = ecdsa(sign_input_of(struct))
-    # anything else that counts as true, such as a coroutine, says nothing about the signature
+    return a_bool(ecdsa(sign_input_of(struct)), "ecdsa")
+
+
+def a_bool(answer: object, name: str) -> bool:
+    """What a function says of a signature.
+
+    Anything else that counts as true, such as a coroutine, says nothing about the signature.
+    """
     if not isinstance(answer, bool):
-        raise TypeError(f"ecdsa should return a bool, and returned {type(answer).__name__}")
+        raise TypeError(f"{name} should return a bool, and returned {type(answer).__name__}")
     return answer

@@ -72,6 +72,11 @@ cose_claims_set
     cose_date exp nbf iat
     cose_range cnf_kid cnf_x cnf_y
     u8 cnf_crv cnf_y_sign
+cose_eddsa_input
+    u8 status reason crv has_kid
+    i32 alg
+    u64 place
+    bytes kid x header payload signature
 cose_pieces
     u64 protected_length
     u8 context_length protected_head_length aad_head_length payload_head_length
@@ -157,6 +162,8 @@ edge_claims bytes &cose_policy &cose_claims_set
 edge_large_claims bytes &cose_policy &cose_claims_set
 edge_audience bytes u64 &cose_range
 edge_next_audience bytes u64 &cose_range
+edge_verify_eddsa bytes bytes u8 bytes &cose_eddsa_input &cose_pieces
+edge_verify_eddsa_detached bytes bytes u8 bytes bytes &cose_eddsa_input &cose_pieces
 edge_large_open_elsewhere &cose_large_verifier bytes bytes u8 &cose_status
 edge_large_open_elsewhere_detached &cose_large_verifier bytes bytes u8 u64 &cose_status
 edge_large_front_pieces &cose_large_verifier room &cose_pieces -> u8
@@ -370,6 +377,11 @@ class FrontPiecesStruct(ctypes.Structure):
 @_struct("cose_chosen_key")
 class AskedKeyStruct(ctypes.Structure):
     """`struct cose_chosen_key`"""
+
+
+@_struct("cose_eddsa_input")
+class EddsaInputStruct(ctypes.Structure):
+    """`struct cose_eddsa_input`"""
 
 
 @_struct("cose_received_signature")

@@ -2,11 +2,11 @@
 
 from __future__ import annotations
 
-from ctypes import byref, c_void_p, create_string_buffer, string_at
+from ctypes import byref, create_string_buffer
 from dataclasses import dataclass
 from typing import Any, NoReturn, Optional, Tuple, Union
 
-from ._answers import fail
+from ._answers import fail, octets_at, pieces_of
 from ._arguments import Algorithm, Buffer, Kind, bytes_of
 from ._library import (
     AskedKeyStruct,
@@ -36,18 +36,12 @@ class AskedKey:
     y: Optional[Union[bytes, bool]]
 
 
-def _octets(struct: AskedKeyStruct, name: str) -> bytes:
-    """The bytes that a field leads to, in the key set."""
-    at = c_void_p.from_buffer(struct, getattr(AskedKeyStruct, name).offset).value
-    return string_at(at, getattr(struct, f"{name}_length")) if at else b""
-
-
 def _key_of(struct: AskedKeyStruct) -> AskedKey:
-    alg, kid = Algorithm(struct.alg), _octets(struct, "kid") if struct.has_kid else None
+    alg, kid = Algorithm(struct.alg), octets_at(struct, "kid") if struct.has_kid else None
     if struct.crv == 0:
-        return AskedKey(alg, kid, _octets(struct, "k"), None, None, None)
-    y = _octets(struct, "y") if struct.y_sign == 0 else struct.y_sign == 2
-    return AskedKey(alg, kid, None, struct.crv, _octets(struct, "x"), y)
+        return AskedKey(alg, kid, octets_at(struct, "k"), None, None, None)
+    y = octets_at(struct, "y") if struct.y_sign == 0 else struct.y_sign == 2
+    return AskedKey(alg, kid, None, struct.crv, octets_at(struct, "x"), y)
 
 
 class Elsewhere(Verifier):
@@ -83,14 +77,7 @@ class Elsewhere(Verifier):
         found = FrontPiecesStruct()
         if self._call("edge_front_pieces", room, len(room), byref(found)) == 0:
             return None
-        return (
-            bytes(found.context[: found.context_length]),
-            bytes(found.protected_head[: found.protected_head_length]),
-            room.raw[: found.protected_length],
-            bytes(found.aad_head[: found.aad_head_length]),
-            self._aad,
-            bytes(found.payload_head[: found.payload_head_length]),
-        )
+        return pieces_of(found, room.raw[: found.protected_length], self._aad)
 
     def asked_key(self) -> Optional[AskedKey]:
         """The key that was chosen, from the payload's head on and until the verdict, or None."""
