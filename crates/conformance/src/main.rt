@@ -12,6 +12,7 @@ mod elsewhere;
 mod expected;
 mod fields;
 mod further;
+mod further_messages;
 mod headers;
 mod heads;
 mod items;
@@ -39,7 +40,7 @@ use std::rt::Files;
 use std::{fs, io};
 
 /// The files, by their schema: those of rows/ but `commands`, which is for the program.
-const SCHEMAS: [&str; 23] = [
+const SCHEMAS: [&str; 24] = [
     "algorithms",
     "further",
     "heads",
@@ -52,6 +53,7 @@ const SCHEMAS: [&str; 23] = [
     "choices",
     "okp_keys",
     "further_choices",
+    "further_messages",
     "macs",
     "digests",
     "structures",
@@ -87,6 +89,7 @@ fn run_test(alloc: Global, schema: &str, group: &Value, test: &Value) -> Result<
         "choices" => choices::run_test(alloc, group, test),
         "okp_keys" => okp_keys::run_test(alloc, group, test),
         "further_choices" => okp_keys::run_choice(alloc, group, test),
+        "further_messages" => further_messages::run_test(alloc, group, test),
         "macs" => macs::run_test(alloc, group, test),
         "digests" => digests::run_test(alloc, group, test),
         "structures" => structures::run_test(alloc, test),

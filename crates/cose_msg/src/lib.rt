@@ -59,6 +59,10 @@
 //! the payload's head [`Verifier::front_pieces`] gives the bytes to hash before the payload, and [`Verifier::asked_key`] the key;
 //! once the message is complete, [`Verifier::verdict_of_mac`] or [`Verifier::verdict_of_answer`] decides by what the caller found.
 //!
+//! EdDSA (RFC 9053 section 2.2, RFC 9864 section 2.2) hashes part of the signature and the key before the message, so it is
+//! verified in memory alone: [`verify_further`] finds the OKP key, and the caller's [`FurtherVerifier`] decides. [`ask_further`]
+//! gives what it is asked, for a caller that answers later ([`FurtherAsk::answer`]). Everywhere else the algorithm is unknown.
+//!
 //! ```rust
 //! let fed = verifier.feed(piece);
 //! let payload = fed.payload_of(piece);
