@@ -711,8 +711,50 @@ def run_signed(group: Row, test: Row) -> None:
             equal(asked, digest, f"the digest, pieces of {size}")
 
 
+# ---- EdDSA
+
+
+class EddsaSignature:
+    """What a row says of its signature; anything else that is asked about isn't good."""
+
+    def __init__(self, test: Row) -> None:
+        names = ("x", "structure", "signature")
+        self.asked = tuple(octets(test, name) for name in names) if "holds" in test else None
+        self.holds = test.get("holds", False)
+        self.alg = 0
+
+    def __call__(self, given: cose.EddsaInput) -> bool:
+        self.alg = given.alg
+        equal((given.x, given.structure, given.signature), self.asked, "what is asked")
+        return self.holds
+
+
+def run_eddsa(group: Row, test: Row) -> None:
+    result = test["result"]
+    if False not in sizes(group, result.get("reason")):
+        raise LeftOut("its limits of headers are others")
+    said = EddsaSignature(test)
+    found = answer(
+        lambda: (
+            cose.verify_eddsa(
+                octets(group, "keys"),
+                octets(test, "message"),
+                said,
+                aad=octets(group, "aad"),
+                wanted=KINDS[group["wanted"]],
+                payload=octets(test, "payload") if "payload" in test else None,
+            ),
+            said.alg,
+        )
+    )
+    is_good = result["verdict"] == "authentic"
+    wanted = (octets(result, "payload"), result["alg"]) if is_good else refusal(result)
+    equal(found, wanted, "verify_eddsa")
+
+
 RUNNERS: Dict[str, Callable[[Row, Row], None]] = {
     "messages": run_message,
+    "further_messages": run_eddsa,
     "detached": run_detached,
     "elsewhere": run_stated,
     "shapes": run_shape,
