@@ -79,7 +79,7 @@ type Message struct {
 func Verify(keys, message []byte, options *Options) (*Message, error) {
 	o := options.orDefault()
 	answer := C.sized_verify(C.bool(o.Large), bytesOf(keys), bytesOf(o.AAD), C.uint32_t(o.Wanted), bytesOf(message))
-	return o.decided(&answer, keys, message, nil)
+	return o.decided(&answer, message, nil)
 }
 
 // VerifyDetached verifies a message in memory whose payload is detached (RFC 9052 section 4.1), with its payload.
@@ -90,11 +90,11 @@ func VerifyDetached(keys, message, payload []byte, options *Options) (*Message, 
 	}
 	answer := C.sized_verify_detached(C.bool(o.Large), bytesOf(keys), bytesOf(o.AAD), C.uint32_t(o.Wanted), bytesOf(message),
 		bytesOf(payload))
-	return o.decided(&answer, keys, message, payload)
+	return o.decided(&answer, message, payload)
 }
 
 // decided is the verdict on a message, whose signature is asked about where it has one. A detached payload isn't nil.
-func (o *Options) decided(answer *C.struct_sized_answer, keys, message, payload []byte) (*Message, error) {
+func (o *Options) decided(answer *C.struct_sized_answer, message, payload []byte) (*Message, error) {
 	verdict := &answer.verdict
 	switch verdict.status {
 	case C.COSE_AUTHENTIC:
@@ -104,7 +104,7 @@ func (o *Options) decided(answer *C.struct_sized_answer, keys, message, payload 
 			return nil, err
 		}
 		if !good {
-			return nil, o.refuseSignature(keys, message, payload)
+			return nil, &Refused{Reason: ReasonBadAuth, Place: uint64(answer.input.place)}
 		}
 	default:
 		return nil, errorOf(verdict.status, verdict.reason, verdict.place)
@@ -114,33 +114,6 @@ func (o *Options) decided(answer *C.struct_sized_answer, keys, message, payload 
 		payload = message[at:end:end]
 	}
 	return &Message{Kind(verdict.kind), Algorithm(verdict.alg), payload, uint64(verdict.taken)}, nil
-}
-
-// refuseSignature is what a message is refused with whose signature isn't good: the library has the place.
-func (o *Options) refuseSignature(keys, message, payload []byte) error {
-	refusing := *o
-	refusing.ECDSA = func(*SignInput) (bool, error) { return false, nil }
-	verifier, err := newVerifier(keys, &refusing, false, payload != nil, uint64(len(payload)))
-	if err != nil {
-		return err
-	}
-	defer verifier.Close()
-	fed, err := verifier.Feed(message)
-	if err != nil {
-		return err
-	}
-	if payload != nil {
-		if _, err = verifier.FeedPayload(payload); err != nil {
-			return err
-		}
-		if _, err = verifier.Feed(message[fed.Used:]); err != nil {
-			return err
-		}
-	}
-	if _, err = verifier.Verdict(); err == nil {
-		return errOtherLibrary
-	}
-	return err
 }
 
 // Shape has the lengths of a message's parts in bytes. Nothing of it is authenticated.

@@ -51,29 +51,24 @@ func (t *KeyTable) Close() error {
 // Verify verifies a message in memory, as the function Verify does.
 func (t *KeyTable) Verify(message []byte, options *Options) (*Message, error) {
 	o := options.orDefault()
-	answer, keys, err := t.answer(message, &o)
+	answer, err := t.answer(message, &o)
 	if err != nil {
 		return nil, err
 	}
-	return o.decided(&answer, keys, message, nil)
+	return o.decided(&answer, message, nil)
 }
 
-// answer is the library's, with a copy of the keys where it is the signature that decides.
-func (t *KeyTable) answer(message []byte, o *Options) (answer C.struct_sized_answer, keys []byte, err error) {
+// answer is the library's.
+func (t *KeyTable) answer(message []byte, o *Options) (answer C.struct_sized_answer, err error) {
 	if err = t.block.lock(); err != nil {
-		return answer, nil, err
+		return answer, err
 	}
 	defer t.block.mutex.Unlock()
-	kept := t.block.copies[0]
 	if o.Large {
-		answer = C.sized_verify(true, bytesOf(kept), bytesOf(o.AAD), C.uint32_t(o.Wanted), bytesOf(message))
-	} else {
-		answer = C.sized_table_verify(t.block.at, bytesOf(o.AAD), C.uint32_t(o.Wanted), bytesOf(message))
+		kept := bytesOf(t.block.copies[0])
+		return C.sized_verify(true, kept, bytesOf(o.AAD), C.uint32_t(o.Wanted), bytesOf(message)), nil
 	}
-	if answer.verdict.status == C.COSE_SIGNED {
-		keys = append(keys, kept...)
-	}
-	return answer, keys, nil
+	return C.sized_table_verify(t.block.at, bytesOf(o.AAD), C.uint32_t(o.Wanted), bytesOf(message)), nil
 }
 
 // CountKeys is how many keys of a COSE_Key or a COSE_KeySet are usable. It returns a *KeysRefused where they are refused.

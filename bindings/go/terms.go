@@ -233,7 +233,7 @@ func (t *Terms) authentic(answer *C.struct_sized_answer, message, payload []byte
 		}
 		answer.verdict.status = C.COSE_AUTHENTIC
 	}
-	return t.decided(answer, nil, message, payload)
+	return t.decided(answer, message, payload)
 }
 
 // Authenticate verifies a message in memory as Verify does, under terms. A key that they leave out fits no message.

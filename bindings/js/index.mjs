@@ -1,12 +1,14 @@
 // The package `cose` for Node: messages and tokens, by the module that ci/web_module builds.
 import { readFile } from "node:fs/promises";
 import low from "./cose.js";
+import edwards from "./cose_eddsa.js";
 import elsewhere from "./cose_elsewhere.js";
 import signing from "./cose_sign1.js";
 import items from "./items.js";
 import reasons from "./reasons.js";
 import signatures from "./signatures.js";
 
+export const { isGoodEddsa } = edwards;
 export const { Elsewhere } = elsewhere;
 export const { KeyTable, Verifier, Maker, STATUS, WANTED, UNMET, MISMATCH } = low;
 export const { Sign1Maker, sign1 } = signing;
@@ -54,6 +56,31 @@ export class Cose extends low.Cose {
         const structure = sigStructure(protectedOf(message), options.aad ?? new Uint8Array(), payload);
         if (await isGoodSignature(input, structure)) return payload;
         throw badSignature(input);
+    }
+
+    /**
+     * What a message that is signed by EdDSA asks of the caller: `input` is what its signature is verified with.
+     * @param {Uint8Array} keys a COSE_Key or a COSE_KeySet
+     * @param {Uint8Array} message
+     * @param {{aad?: Uint8Array, wanted?: number, payload?: Uint8Array}} [options]
+     */
+    verifyEddsa(keys, message, options) {
+        return edwards.verifyEddsa(this, keys, message, options);
+    }
+
+    /**
+     * The payload of a message that is authentic, and signed by EdDSA. `isGood` is asked about its signature: by default WebCrypto is.
+     * Else it rejects with `Refused`.
+     * @param {Uint8Array} keys
+     * @param {Uint8Array} message
+     * @param {{aad?: Uint8Array, wanted?: number, payload?: Uint8Array, isGood?: (input: EddsaInput) => boolean | Promise<boolean>}} [options]
+     * @returns {Promise<Uint8Array>}
+     */
+    async eddsaPayload(keys, message, { isGood = isGoodEddsa, ...options } = {}) {
+        const answer = this.verifyEddsa(keys, message, options);
+        if (!answer.input || !answer.payload) throw new Refused(answer);
+        if ((await isGood(answer.input)) === true) return answer.payload;
+        throw badSignature(answer);
     }
 
     /**

@@ -340,6 +340,24 @@ function runTerms(group, test) {
     }
 }
 
+// ---- EdDSA
+
+async function runEddsa(group, test) {
+    const { result } = test;
+    if (!sizes(group, result.reason).some(({ large }) => !large)) throw new LeftOut("its limits of headers are others");
+    let alg;
+    const isGood = (input) => {
+        equal([input.x, input.structure, input.signature].map(hex), [test.x, test.structure, test.signature], "what is asked");
+        alg = input.alg;
+        return test.holds;
+    };
+    const given = { aad: octets(group.aad), wanted: WANTED[group.wanted], payload: "payload" in test ? octets(test.payload) : undefined };
+    const seen = await cose
+        .eddsaPayload(octets(group.keys), octets(test.message), { ...given, isGood })
+        .then((payload) => ["authentic", hex(payload), alg], refusedAs);
+    equal(seen, result.verdict === "authentic" ? ["authentic", result.payload, result.alg] : refusal(result), "eddsaPayload");
+}
+
 // ---- the lines of SECURITY's checklist
 
 /** What a caller who follows the checklist makes of a message: the safe calls, with what it states. */
@@ -458,6 +476,7 @@ const RUNNERS = {
     messages: runMessage,
     detached: runDetached,
     elsewhere: runStated,
+    further_messages: runEddsa,
     shapes: runShape,
     tokens: runToken,
     claims: runClaims,

@@ -4,7 +4,21 @@ import { test } from "node:test";
 import { leftOutOf, lineOf, runFile, SCHEMAS } from "./rows.mjs";
 
 /** How many rows of each file are left out, so that no more are. */
-const LEFT_OUT = { messages: 68, detached: 7, elsewhere: 0, shapes: 7, tokens: 4, claims: 23, terms: 0, checklist: 0, keys: 2, sets: 11, made: 1, signed: 1 };
+const LEFT_OUT = {
+    messages: 68,
+    further_messages: 9,
+    detached: 7,
+    elsewhere: 0,
+    shapes: 7,
+    tokens: 4,
+    claims: 23,
+    terms: 0,
+    checklist: 0,
+    keys: 2,
+    sets: 11,
+    made: 1,
+    signed: 1,
+};
 
 for (const schema of SCHEMAS) {
     test(`each row of ${schema} that the interface can ask is answered as it says`, async (t) => {

@@ -8,9 +8,9 @@ use crate::{raw, Accepted, Curve, Error, Fed, Options, Size, Small, Status, Veri
 /// What is hashed before the payload
 /// ([RFC 9052 sections 4.4 and 6.3](https://www.rfc-editor.org/rfc/rfc9052#section-6.3)).
 pub struct FrontPieces<'p> {
-    heads: raw::FrontPieces,
-    protected: &'p [u8],
-    aad: &'p [u8],
+    pub(crate) heads: raw::FrontPieces,
+    pub(crate) protected: &'p [u8],
+    pub(crate) aad: &'p [u8],
 }
 
 impl FrontPieces<'_> {

@@ -52,6 +52,7 @@ compile_error!("this crate is for targets whose pointers have 64 bits");
 mod adapter;
 mod block;
 mod claims;
+mod eddsa;
 mod elsewhere;
 mod error;
 mod functions;
@@ -73,6 +74,7 @@ mod verifier;
 
 pub use block::Block;
 pub use claims::{claims, verify_cwt, Audiences, Claims, Confirmation, Policy};
+pub use eddsa::{verify_eddsa, verify_eddsa_detached, EddsaCurve, EddsaInput};
 pub use elsewhere::{AskedKey, AskedMaterial, AskedSignature, Elsewhere, FrontPieces};
 pub use error::Error;
 #[cfg(feature = "std")]

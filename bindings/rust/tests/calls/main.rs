@@ -1,6 +1,7 @@
 //! Calls the library through the crate.
 
 mod adapter;
+mod eddsa;
 mod items;
 mod json;
 mod messages;
