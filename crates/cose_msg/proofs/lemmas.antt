@@ -5,6 +5,7 @@ pub mod Detached
 pub mod Feeding
 pub mod Fronts
 pub mod FurtherAnswers
+pub mod FurtherNamed
 pub mod InMemory
 pub mod Made
 pub mod Reader

@@ -3,7 +3,7 @@
 
 ghost use Rattle.cose_msg.specs.Elsewhere.{DecidedBefore, OtherMacIsRefused, StatedAnswerIsVerdict, StatedMacIsVerdict, VerdictIsInstance};
 ghost use Rattle.cose_msg.specs.Feed.{CutsDontMatter, PiecesJoin};
-ghost use Rattle.cose_msg.specs.FurtherLaws.{FurtherIsMessage, NoIsRefused, RefusedUnasked};
+ghost use Rattle.cose_msg.specs.FurtherLaws.{AuthenticNowhereElse, FurtherIsMessage, NoIsRefused, RefusedUnasked};
 ghost use Rattle.cose_msg.specs.GrammarLaws.{ArrayOfFourIsMessage, AuthenticIsMessage, MessageIsArrayOfFour, MessageIsRead, OneArrayOfFour};
 ghost use Rattle.cose_msg.specs.Maker.{MadeInParts};
 ghost use Rattle.cose_msg.specs.MakingLaws.{MadeIsAuthentic, SignedIsAuthentic};
@@ -222,5 +222,16 @@ pub fn further_authentication_decides()
     ensures unasked { RefusedUnasked }
 {
     // The law that the proof cites: what is read as a whole message is one by the grammar.
+    unrefused_is_message();
+}
+
+/// A message that names an algorithm which is left to the caller, and is authentic so, isn't authentic to a
+/// [`Verifier`](crate::Verifier), whatever its keys are and whatever decides on the signature there. (Of a message that names none
+/// an OKP key may fit here, and another key there.)
+pub fn further_is_no_other()
+    ensures { AuthenticNowhereElse }
+{
+    // The laws that the proof cites: both are a message by the grammar, and that is one alone.
+    authentication_decides();
     unrefused_is_message();
 }

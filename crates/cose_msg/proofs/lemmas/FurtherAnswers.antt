@@ -1,5 +1,5 @@
 -- Messages whose signature the caller verifies: what is asked, and what is answered.
-use Rattle.std.proofs.Common.{◌≡◌, ℕ, ◌≤◌, Bool, true, false, cond, List, length, take, Option, Some, None, Result, Ok, Err, refl, sym, ap, subst, ◌∙◌, arith}
+use Rattle.std.proofs.Common.{◌≡◌, ℕ, Bool, true, false, cond, List, length, take, Option, Some, None, Result, Ok, Err, refl, sym, ap, subst, ◌∙◌, arith}
 use Rattle.std.specs.Prelude.{nat_lt, ◌==◌, option_map}
 use Rattle.std.proofs.lemmas.Bool.{eq-eqb, eqb-true, le-ltb, ltb-false}
 use Rattle.std.proofs.lemmas.List.{take_all}
@@ -11,11 +11,11 @@ use Rattle.cose_head.specs.Further.{signature_length_of}
 use Rattle.cose_map.specs.Key.Okp.{OkpValue}
 use Rattle.cose_msg.specs.declared.verdict.Verdict.TheVariants.{Authentic, Refused}
 use Rattle.cose_msg.specs.Answer.{Answer, Whole, decided, complete, shaped}
-use Rattle.cose_msg.specs.Further.{Asked, FurtherDecides, OkpChosen, answered, asked_in, asked_of_chosen, asked_of_whole, asked_with, decided_by, further_rules, okp_chosen, past_authentic, refuse, trailing_of}
+use Rattle.cose_msg.specs.Further.{FurtherDecides, OkpChosen, answered, asked_in, asked_of_chosen, asked_of_whole, asked_with, decided_by, further_rules, okp_chosen, past_authentic, refuse, trailing_of}
 use Rattle.cose_msg.specs.FurtherLaws.{FurtherIsMessage, IsSigned, NoIsRefused, RefusedUnasked}
 use Rattle.cose_msg.specs.Grammar.{IsMessage}
 use Rattle.cose_msg.specs.Message.{Setting, message, structure}
-use Rattle.cose_msg.specs.Unrefused.{BeginsWithMessage, WholeIsMessage}
+use Rattle.cose_msg.specs.Unrefused.{WholeIsMessage}
 
 pub asked_at_length : (count : ℕ) (aad : List ℕ) (whole : Whole) (found : OkpChosen) → length whole.auth ≡ signature_length_of found.0.curve →
     Ok (asked_with count aad whole found) ≡ asked_of_whole count aad whole found
