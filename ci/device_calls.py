@@ -16,7 +16,7 @@ KEEPING = ("open", "open_detached", "table_read")
 HEADER = pathlib.Path(__file__).resolve().parent.parent / "include" / "cose.h"
 # the version of the library that the header is for
 VERSION = sum(int(re.search(rf"COSE_VERSION_{part} (\d+)", HEADER.read_text())[1]) << at for part, at in (("MAJOR", 16), ("MINOR", 8), ("PATCH", 0)))
-DECLARED = {ctypes.c_uint8: "(uint8_t)", ctypes.c_int32: "(int32_t)"}
+DECLARED = {ctypes.c_uint8: "(uint8_t)", ctypes.c_int32: "(int32_t)", ctypes.c_uint32: "(uint32_t)", ctypes.c_int64: "(int64_t)"}
 
 
 class Rooms(NamedTuple):
@@ -29,7 +29,7 @@ class Rooms(NamedTuple):
     large_block: int = 140032
     kept: int = 140000
     request: int = 1500000
-    answer: int = 16384
+    answer: int = 80000
 
     def defined(self):
         """The options of the compiler."""

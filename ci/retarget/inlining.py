@@ -24,9 +24,10 @@ INLINED = {
     "core::array::DefaultsElements::at",
     "core::slice::edits::slice+T::rotate_left",
 }
-# what is inlined too where a module is built for speed: sets of labels are made where they stay, and what the search for the key keeps
-# shares its place on the stack with what is done before it and after it
+# what is inlined too where a module is built for speed: sets of labels, what is asked of a key, and claims are made where they stay, and
+# what the search for the key keeps shares its place on the stack with what is done before it and after it
 SHARED = {
+    "cose_c::claims::admitted",
     "cose_map::key::Key::read",
     "cose_map::key_set::KeySet::find",
     "cose_map::key_set::KeySetKeys::find",
@@ -39,16 +40,20 @@ SHARED = {
     "cose_map::map::lookup::Lookup::new",
     "cose_map::map::unordered::Unordered::none",
     "cose_map::map::unordered::Unordered::push",
+    "cose_msg::reader::choice::query_of",
     "core::array::ArrayDefault::default",
     "core::array::DefaultsElements::at",
 }
-# what isn't inlined there: the search for the key isn't on the stack while both buckets are read
+# what isn't inlined there: the search for the key isn't on the stack while both buckets are read, nor is what takes the payload
+# while the headers are
 APART = {
+    "cose_msg::reader::Reader::payload",
     "cose_msg::reader::choice::key_for",
 }
-# what is long, since there are no vectors
+# what is long, since there are no vectors, or is called from many places
 OUT_OF_LINE = {
     "core::slice::scan::ByteMismatchLaneTest::marks",
+    "cose_msg::reader::Reader::refuse",
 }
 # what has a value as large as a store on its stack: it is not made smaller at the cost of copies
 HOLDING = {
@@ -63,11 +68,12 @@ HOLDING = {
     "cose_map::map::read::check_in_any_order",
 }
 EXPORTED = "cose_"
-# what takes most of the time stays as it is made for speed, but that four of its steps are in one place and not in several
+# what takes most of the time stays as it is made for speed, but that a step, and four of them, are in one place and not in several
 HASHING = "sha2::block256::"
 STEPS = {
     "sha2::block256::first_four_steps",
     "sha2::block256::four_steps",
+    "sha2::block256::round",
 }
 # what an attribute may say of inlining, and what it says of each kind of function
 ABOUT = ("alwaysinline", "inlinehint", "noinline")

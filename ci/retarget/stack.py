@@ -18,10 +18,10 @@ KIB = 1024
 # how deep items nest: in calls of the large size, and in others
 LARGE_DEPTH, DEPTH = 16, 8
 # what docs/DEVICES.md promises: calls over memory of the large size, other calls of that size, calls over memory, those under terms,
-# cose_table_read, those of a verifier that is fed, and all others
+# those of a verifier that is fed and cose_table_read, and all others
 PROMISED = {
-    "speed": (160 * KIB, 12 * KIB, 13 * KIB, 15 * KIB, 6 * KIB, 8 * KIB, 10 * KIB),
-    "size": (160 * KIB, 14 * KIB, 16 * KIB, 18 * KIB, 8 * KIB, 10 * KIB, 12 * KIB),
+    "speed": (160 * KIB, 10 * KIB, 12 * KIB, 13 * KIB, 6 * KIB, 8 * KIB),
+    "size": (160 * KIB, 13 * KIB, 15 * KIB, 17 * KIB, 8 * KIB, 11 * KIB),
 }
 LARGE_OVER_MEMORY = {
     *("cose_edge_large_verify", "cose_edge_large_verify_detached", "cose_edge_large_verify_cwt", "cose_edge_large_claims"),
@@ -36,6 +36,7 @@ OVER_MEMORY = {
 OF_FED = {
     *("cose_edge_open", "cose_edge_open_detached", "cose_edge_feed", "cose_edge_feed_payload"),
     *("cose_end", "cose_verdict", "cose_verdict_for", "cose_sign_input", "cose_reset"),
+    "cose_edge_table_read",
 }
 UNDER_TERMS = {
     *("cose_edge_authenticate", "cose_edge_authenticate_detached", "cose_edge_admit"),
@@ -182,7 +183,7 @@ class Graph:
 
 def promised(name, way):
     """What docs/DEVICES.md promises of a call."""
-    large_over_memory, large, over_memory, under_terms, table, of_fed, others = PROMISED[way]
+    large_over_memory, large, over_memory, under_terms, of_fed, others = PROMISED[way]
     if name in LARGE_OVER_MEMORY:
         return large_over_memory
     if "_large_" in name:
@@ -191,9 +192,7 @@ def promised(name, way):
         return over_memory
     if name in UNDER_TERMS:
         return under_terms
-    if name in OF_FED:
-        return of_fed
-    return table if name == "cose_edge_table_read" else others
+    return of_fed if name in OF_FED else others
 
 
 def report(path, way):

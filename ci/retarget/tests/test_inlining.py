@@ -46,7 +46,7 @@ class Inlined(unittest.TestCase):
             self.assertEqual(attributes(f'@"{name}"', 3), "noinline optsize nounwind")
 
     def test_hashing(self):
-        self.assertEqual(attributes('@"sha2::block256::round"', 2), "alwaysinline optsize nounwind")
+        self.assertEqual(attributes('@"sha2::block256::step"', 2), "alwaysinline optsize nounwind")
         self.assertEqual(attributes('@"sha2::block256::compress"', 0), "optsize nounwind")
         for name in STEPS:
             self.assertEqual(attributes(f'@"{name}"', 2), "noinline optsize nounwind")

@@ -4,7 +4,7 @@ mod curve;
 mod form;
 mod labels;
 pub mod material;
-mod members;
+pub(crate) mod members;
 pub mod okp;
 pub mod operations;
 
@@ -36,11 +36,28 @@ pub struct Key<'a> {
 }
 
 impl<'a> Key<'a> {
-    ghost use Rattle.std.specs.Prelude.{◌≡◌, ◌+◌, ◌<◌, ◌≤◌, ◌^◌, length, Ok, IfErr};
+    ghost use Rattle.std.specs.Prelude.{◌≡◌, ◌+◌, ◌<◌, ◌≤◌, ◌^◌, length, Ok, IfErr, IfOk};
     ghost use Rattle.cose_head.specs.ItemRef.{placed};
     ghost use Rattle.cose_map.specs.Key.{key_by, key_of};
+    ghost use Rattle.cose_map.specs.Key.Form.{key_table};
     ghost use Rattle.cose_map.specs.Key.View.{key_value};
+    ghost use Rattle.cose_map.specs.Map.Read.{read_map};
     ghost use Rattle.cose_map.specs.Map.View.{pairs_left, seen_by};
+
+    /// The members of the key that a map is, each of its form. Not inlined, so that no key is on the stack while they are
+    /// checked.
+    #[inline(never)]
+    pub(crate) fn checked(bytes: &'a [u8], at: u64) -> Result<Members<'a>, Refusal>
+        requires { at + length bytes.now < 2 ^ 64 }
+        ensures pairs { seen_by (λ members. pairs_left members.pairs) result
+            ≡ read_map key_table 8 (record { bytes = bytes.now; place = at }) }
+        ensures item { IfOk result (λ members. placed members.key
+            ≡ record { bytes = bytes.now; place = at }) }
+    {
+        let key = ItemRef::read(bytes, at, NESTING)?;
+        let pairs = check_map(&KeyForm, &key)?;
+        Ok(Members { key, pairs })
+    }
 
     /// The key that a map is.
     #[tactic(auto, unfolding(crate::specs::Key::key_of))]
@@ -48,14 +65,13 @@ impl<'a> Key<'a> {
         requires { at + length bytes.now < 2 ^ 64 }
         ensures { seen_by key_value result ≡ key_of (record { bytes = bytes.now; place = at }) }
     {
-        let key = ItemRef::read(bytes, at, NESTING)?;
-        let pairs = check_map(&KeyForm, &key)?;
-        Key::of_members(&Members { key, pairs })
+        let members = Key::checked(bytes, at)?;
+        Key::of_members(&members)
     }
 
     /// The key that has these members. Not inlined, so that its values aren't on the stack while the members are checked.
     #[inline(never)]
-    fn of_members(members: &Members<'a>) -> Result<Key<'a>, Refusal>
+    pub(crate) fn of_members(members: &Members<'a>) -> Result<Key<'a>, Refusal>
         ensures { seen_by key_value result
             ≡ key_by (placed members.now.key) (pairs_left members.now.pairs) }
     {

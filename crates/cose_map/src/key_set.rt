@@ -117,9 +117,7 @@ impl<'a> KeySet<'a> {
         }
         let mut fitting = Fitting::Nothing;
         for item in KeyItems::of(self.set) {
-            if let Some(key) = usable(&item) {
-                fitting.meet(&key, query);
-            }
+            fitting.meet_item(&item, query);
         }
         fitting.answer(query)
     }

@@ -1,15 +1,20 @@
 //! The choice among the keys that fit.
 
-ghost use Rattle.std.specs.Prelude.{◌≡◌, ℤ, List, [], ◌∷◌};
+ghost use Rattle.std.specs.Prelude.{◌≡◌, ℤ, List, [], ◌∷◌, option_and_then};
 ghost use Rattle.std.specs.List.{cons_option};
+ghost use Rattle.cose_head.specs.ItemRef.{placed};
 ghost use Rattle.cose_map.specs.Choice.{Question, fitting as fitting_key};
 ghost use Rattle.cose_map.specs.Choice.View.{question, with_rest, found_value};
+ghost use Rattle.cose_map.specs.Key.{key_by};
 ghost use Rattle.cose_map.specs.Key.Value.{KeyValue};
 ghost use Rattle.cose_map.specs.Key.View.{key_value};
+ghost use Rattle.cose_map.specs.KeySet.{usable, usable_with};
+ghost use Rattle.cose_map.specs.Map.View.{pairs_left};
 
 use crate::choice::query::Query;
 use crate::key::Key;
-use cose_head::Reason;
+use crate::key::members::Members;
+use cose_head::{ItemRef, Reason};
 
 /// The keys that fit, of those that were checked so far.
 #[derive(Clone, Copy)]
@@ -31,6 +36,33 @@ impl<'k> Fitting<'k> {
     {
         if let Some(algorithm) = query.fitting(key) {
             self.add(key, algorithm);
+        }
+    }
+
+    /// With the key that has these members, if it is a usable one that fits. Not inlined, so that no key is on the stack while the
+    /// members of the next one are checked.
+    #[inline(never)]
+    fn meet_members(&mut self, members: &Members<'k>, query: &Query)
+        ensures { (rest : List (KeyValue × ℤ)) → with_rest (question query.now) self.new rest
+            ≡ with_rest (question query.now) self.old
+            (cons_option (option_and_then (fitting_key (question query.now))
+            (usable_with (key_by (placed members.now.key) (pairs_left members.now.pairs)))) rest) }
+    {
+        if let Ok(key) = Key::of_members(members) {
+            self.meet(&key, query);
+        }
+    }
+
+    /// With the key that an item is, if it is a usable one that fits.
+    #[tactic(auto, unfolding(crate::specs::Key::key_of))]
+    pub(crate) fn meet_item(&mut self, item: &ItemRef<'k>, query: &Query)
+        ensures { (rest : List (KeyValue × ℤ)) → with_rest (question query.now) self.new rest
+            ≡ with_rest (question query.now) self.old
+            (cons_option (option_and_then (fitting_key (question query.now))
+            (usable (placed item.now))) rest) }
+    {
+        if let Ok(members) = Key::checked(item.bytes, item.place) {
+            self.meet_members(&members, query);
         }
     }
 

@@ -106,10 +106,17 @@ impl<'k, const H: usize, const D: usize> Reader<'k, H, D> {
     ghost use Rattle.cose_msg.specs.Reader.{Shows, ReaderMeans, task_in};
     ghost use Rattle.cose_msg.specs.Task.{Task, asks, keys_for, rules_of};
 
-    /// What both buckets say of the key, once they are checked together. Their contents are at these places, and were found
-    /// good. Not inlined, so that the buckets aren't on the stack while a key is looked for.
+    /// Puts what both buckets say of the key into its place, once they are checked together. Their contents are at these
+    /// places, and were found good. Not inlined, so that the buckets aren't on the stack while a key is looked for. (It isn't
+    /// returned, so that it is copied no more often than it has to be.)
     #[inline(never)]
-    fn asked(&self, kind: Kind, protected_at: u64, at: u64) -> Result<Asked<'_>, Refusal>
+    fn asked<'s>(
+        &'s self,
+        kind: Kind,
+        protected_at: u64,
+        at: u64,
+        into: &mut Asked<'s>,
+    ) -> Result<(), Refusal>
         requires protected_early { protected_at ≤ 36 }
         requires early { at < 2 ^ 17 }
         ensures refused { (pairs others : List Pair)
@@ -121,21 +128,20 @@ impl<'k, const H: usize, const D: usize> Reader<'k, H, D> {
         ensures query { (pairs others : List Pair)
             → bucket_of D (placed_at protected_at self.now.protected.items) ≡ Ok pairs
             → bucket_of D (placed_at at self.now.unprotected.items) ≡ Ok others
-            → IfOk result (λ asked. question asked.query
+            → IfOk result (λ _. question into.new.query
             ≡ question_of (headers_of kind [] pairs others)) }
         ensures bare { (pairs others : List Pair)
             → bucket_of D (placed_at protected_at self.now.protected.items) ≡ Ok pairs
             → bucket_of D (placed_at at self.now.unprotected.items) ≡ Ok others
-            → IfOk result (λ asked. asked.is_bare ≡ (length pairs == 0)) }
+            → IfOk result (λ _. into.new.is_bare ≡ (length pairs == 0)) }
     {
         let protected = Bucket::again(self.protected.as_slice(), protected_at, D)?;
         let unprotected = Bucket::again(self.unprotected.as_slice(), at, D)?;
         let place = at + self.unprotected.len() as u64;
         check_pair(&protected, &unprotected, self.terms.understood, place)?;
-        Ok(Asked {
-            query: query_of(kind, &protected, &unprotected),
-            is_bare: protected.is_empty(),
-        })
+        into.query = query_of(kind, &protected, &unprotected);
+        into.is_bare = protected.is_empty();
+        Ok(())
     }
 
     /// Puts the key that the buckets choose into its place, if one is to be chosen, and returns whether the protected bucket
@@ -158,7 +164,17 @@ impl<'k, const H: usize, const D: usize> Reader<'k, H, D> {
             (choice_of task (headers_of kind self.now.protected.items pairs others)
             (at + length self.now.unprotected.items)) }
     {
-        let asked = self.asked(kind, protected_at, at)?;
+        let mut asked = Asked {
+            query: Query {
+                kind,
+                operation: 0,
+                protected_alg: None,
+                unprotected_alg: None,
+                kid: None,
+            },
+            is_bare: false,
+        };
+        self.asked(kind, protected_at, at, &mut asked)?;
         let place = at + self.unprotected.len() as u64;
         match key_for(keys, &asked.query, into) {
             Ok(()) => Ok(asked.is_bare),

@@ -14,14 +14,8 @@ loop-item-init c = grind (arith, common_steps)
 pub next-requires : goal.next-requires
 next-requires c = grind (arith, common_steps)
 
-pub usable-requires : goal.usable-requires
-usable-requires c = grind (arith, common_steps)
-
-pub meet-requires : goal.meet-requires
-meet-requires c = grind (arith, common_steps)
-
-pub loop-item-smaller-in-Some-usable : goal.loop-item-smaller-in-Some-usable
-loop-item-smaller-in-Some-usable c = grind (arith, common_steps)
+pub meet_item-requires : goal.meet_item-requires
+meet_item-requires c = grind (arith, common_steps)
 
 pub loop-item-smaller : goal.loop-item-smaller
 loop-item-smaller c = grind (arith, common_steps)

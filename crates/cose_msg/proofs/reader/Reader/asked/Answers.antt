@@ -8,5 +8,5 @@ overflow_add-place g c = grind (arith, common_steps)
 pub check_pair-requires : goal.check_pair-requires
 check_pair-requires g c = cc
 
-pub is_empty-requires : goal.is_empty-requires
-is_empty-requires g c = cc
+pub is_empty-into-requires : goal.is_empty-into-requires
+is_empty-into-requires g c = cc
