@@ -11,8 +11,8 @@ use Rattle.cose_map.specs.KeySet.{items_in, keys_of, usable}
 use Rattle.cose_map.specs.Map.Read.{Read}
 use Rattle.cose_head.specs.Whole.{whole}
 use Rattle.cose_c.specs.declared.numbers.CoseStatus.{CoseStatus}
-use Rattle.cose_c.specs.KeyChoice.{first_fitting, fitting_in, is_fitting, key_chosen}
-use Rattle.cose_c.specs.Permitted.{PermissionValue, permits, permitted_in, permitted_of}
+use Rattle.cose_c.specs.KeyChoice.{first_fitting, fitting_in, key_chosen}
+use Rattle.cose_c.specs.Permitted.{PermissionValue, is_fitting, permits, permitted_in, permitted_of}
 use Rattle.cose_c.proofs.Choices.{fitting_itself}
 use Rattle.cose_c.proofs.KeySets.{a_set_is_whole, keys_of_set}
 

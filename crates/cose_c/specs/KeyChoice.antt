@@ -1,11 +1,11 @@
 -- Which key of a set a message is verified with, and why a key isn't (RFC 9052 section 7.1).
-use Rattle.std.specs.Prelude.{ℕ, ℤ, Bool, false, ◌&&◌, List, [], ◌∷◌, Option, Some, None, Result, Ok, Err, is_some, if◌then◌else◌, option_and_then, ◌==◌}
+use Rattle.std.specs.Prelude.{ℕ, ℤ, List, [], ◌∷◌, Option, Some, None, Result, Ok, Err, if◌then◌else◌, option_and_then, ◌==◌}
 use Rattle.cose_head.specs.declared.kind.Kind.{Kind}
 use Rattle.cose_head.specs.declared.kind.Kind.TheVariants as kinds
 use Rattle.cose_head.specs.Placed.{Placed}
 use Rattle.cose_head.specs.Whole.{whole}
 use Rattle.cose_map.specs.Bucket.{alg_of, kid_of}
-use Rattle.cose_map.specs.Choice.{Question, fitting}
+use Rattle.cose_map.specs.Choice.{Question}
 use Rattle.cose_map.specs.Choice.Mismatch.{mismatch}
 use Rattle.cose_map.specs.declared.choice.mismatch.Mismatch.{Mismatch}
 use Rattle.cose_map.specs.declared.choice.mismatch.Mismatch.TheVariants as conditions
@@ -24,7 +24,7 @@ use Rattle.cose_c.specs.declared.key_choice.CoseKeyFit.{CoseKeyFit}
 use Rattle.cose_c.specs.declared.numbers.CoseStatus.{CoseStatus}
 use Rattle.cose_c.specs.Item.{item_at}
 use Rattle.cose_c.specs.Numbers.{plain_status, refused_status}
-use Rattle.cose_c.specs.Permitted.{PermissionValue, permits}
+use Rattle.cose_c.specs.Permitted.{PermissionValue, is_fitting, permits}
 use Rattle.cose_c.specs.Stream.{status_numbers}
 
 -- ---- what a message asks of its key
@@ -94,11 +94,6 @@ fit_asked (Ok q) p item = fit_at q p item
 fit_asked (Err status) p item = no_fit status
 
 -- ---- which key is used
-
--- A usable key that is permitted and fits.
-abbrev pub is_fitting : Question → PermissionValue → Option KeyValue → Bool
-is_fitting q p (Some key) = permits p key && is_some (fitting q key)
-is_fitting q p None = false
 
 -- The first of these items that is one.
 abbrev pub first_fitting : Question → PermissionValue → List Placed → Option Placed

@@ -14,6 +14,7 @@ pub mod Shape
 pub mod Stated
 pub mod KeySet
 pub mod KeyChoice
+pub mod FittingItems
 pub mod CoseClaims
 pub mod Claims
 pub mod Item

@@ -1,9 +1,8 @@
 -- Which keys of a set a caller permits: by their algorithm (RFC 9052 section 7.1), and by the length of a secret (RFC 9053 section 3.1).
-use Rattle.std.specs.Prelude.{ℕ, ℤ, pos, Bool, true, false, not, ◌&&◌, ◌||◌, List, filter, Option, Some, None, Result, Ok, Err, if◌then◌else◌}
+use Rattle.std.specs.Prelude.{ℕ, ℤ, pos, Bool, true, false, not, ◌&&◌, ◌||◌, List, filter, Option, Some, None, Ok, Err, if◌then◌else◌, is_some, option_and_then}
 use Rattle.std.specs.List.{list_any}
 use Rattle.std.specs.Ordering.{int_eq}
-use Rattle.cose_head.specs.declared.reason.Reason.{Reason}
-use Rattle.cose_head.specs.declared.reason.Reason.TheVariants.{AmbiguousKey}
+use Rattle.cose_map.specs.Choice.{Question, fitting, integer_in_label}
 use Rattle.cose_map.specs.Key.Value.{KeyValue, MaterialValue, elliptic, symmetric}
 use Rattle.cose_map.specs.Label.{LabelValue, number, words}
 use Rattle.cose_map.specs.Map.Read.{Read}
@@ -42,10 +41,17 @@ permits_algorithm p key = if is_stated p.algorithms then is_among p.algorithms k
 abbrev pub permits : PermissionValue → KeyValue → Bool
 permits p key = permits_algorithm p key && allows_material p.least_secret key.material
 
--- A key was found that isn't permitted.
-abbrev pub forbids : PermissionValue → Result (KeyValue × ℤ) Reason → Bool
-forbids p (Ok found) = not (permits p found.0)
-forbids p (Err reason) = false
+-- A usable key that is permitted and fits.
+abbrev pub is_fitting : Question → PermissionValue → Option KeyValue → Bool
+is_fitting q p (Some key) = permits p key && is_some (fitting q key)
+is_fitting q p None = false
+
+-- The number of the algorithm that a key which fits is used with: that of the protected bucket, without it that of the unprotected one,
+-- and without both the key's own (RFC 9052 section 3.1).
+abbrev pub number_among : Option LabelValue → Option LabelValue → Option LabelValue → Option ℤ
+number_among (Some protected) unprotected own = integer_in_label protected
+number_among None (Some unprotected) own = integer_in_label unprotected
+number_among None None own = option_and_then integer_in_label own
 
 -- The keys that are permitted, in their order.
 abbrev pub permitted_of : PermissionValue → List KeyValue → List KeyValue
@@ -54,11 +60,3 @@ permitted_of p keys = filter (permits p) keys
 abbrev pub permitted_in : PermissionValue → Read (List KeyValue) → Read (List KeyValue)
 permitted_in p (Ok keys) = Ok (permitted_of p keys)
 permitted_in p (Err refusal) = Err refusal
-
--- The choice among some keys and others, by the choice among each: the one that fits, if only one does.
-abbrev pub both : {A : Type 0} → Result A Reason → Result A Reason → Result A Reason
-both (Ok one) (Ok another) = Err AmbiguousKey
-both (Ok one) (Err AmbiguousKey) = Err AmbiguousKey
-both (Ok one) (Err reason) = Ok one
-both (Err AmbiguousKey) after = Err AmbiguousKey
-both (Err reason) after = after

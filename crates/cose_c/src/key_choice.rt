@@ -31,7 +31,7 @@ use crate::item::{CoseItem, no_item, numbers_of};
 use crate::numbers::{
     BAD_ARGUMENT, COMPLETE, CoseStatus, KEYS_REFUSED, plain_status, refused_status,
 };
-use crate::permitted::{Permission, PermittedKeys};
+use crate::permitted::{Permission, PermittedKeys, is_fitting};
 use crate::stated::{CoseTerms, context, labels_of, permission};
 use crate::stream::status_numbers;
 use crate::terms::{HEADER, NESTING};
@@ -167,18 +167,6 @@ fn take<'k, const H: usize, const D: usize, K: Keys<'k>>(
     // The law that the proof cites.
     settled_stays();
     verifier.feed(message).status
-}
-
-/// Whether a usable key is permitted and fits.
-fn is_fitting(item: &ItemRef<'_>, query: &Query<'_>, permission: &Permission<'_>) -> bool
-    ensures { result
-        ≡ spec.is_fitting (question query.now) (permission_value permission.now)
-        (usable (placed item.now)) }
-{
-    match Key::read(item.bytes, item.place) {
-        Ok(key) => permission.permits(&key) && query.mismatch(&key).is_none(),
-        Err(_) => false,
-    }
 }
 
 /// The condition that a key fails, in numbers.

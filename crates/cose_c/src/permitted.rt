@@ -1,19 +1,21 @@
 //! The keys of a set that a caller permits: by their algorithm, and by the length of a secret.
 
-ghost use Rattle.std.specs.Prelude.{◌≡◌, option_map};
+ghost use Rattle.std.specs.Prelude.{◌≡◌, true, List, [], ◌∷◌, ◌++◌, filter_map, option_map};
+ghost use Rattle.std.specs.List.{list_any};
+ghost use Rattle.std.specs.Ordering.{int_eq};
 ghost use Rattle.cose_head.specs.ItemRef.{placed};
-ghost use Rattle.cose_map.specs.Choice.{chosen};
+ghost use Rattle.cose_head.specs.Placed.{children_of};
+ghost use Rattle.cose_map.specs.Choice.{Question, chosen};
 ghost use Rattle.cose_map.specs.Choice.View.{found_value, question};
+ghost use Rattle.cose_map.specs.Key.Value.{KeyValue};
 ghost use Rattle.cose_map.specs.Key.View.{key_value, material_value};
 ghost use Rattle.cose_map.specs.KeySet.{keys_of, usable};
 ghost use Rattle.cose_map.specs.Label.View.{label_value};
 ghost use Rattle.cose_map.specs.Map.View.{seen_by};
 ghost use Rattle.cose_map.specs.Restrictions.{allows_material, is_among};
-ghost use Rattle.std.specs.Prelude.{[], filter, filter_map, ◌∷◌};
-ghost use Rattle.cose_head.specs.Placed.{children_of};
-ghost use Rattle.std.specs.List.{list_any};
-ghost use Rattle.std.specs.Ordering.{int_eq};
+ghost use Rattle.cose_c.specs.FittingItems.{Among, fits_alone};
 ghost use Rattle.cose_c.specs.Permitted as spec;
+ghost use Rattle.cose_c.specs.Permitted.{PermissionValue, permitted_in, permitted_of};
 ghost use Rattle.cose_c.specs.PermittedView.{keys_permitted, permission_value};
 
 use cose_head::{ItemRef, Items, Reason, Refusal};
@@ -121,16 +123,6 @@ impl Permission<'_> {
     {
         self.permits_algorithm(key) && self.permits_material(&key.material)
     }
-
-    /// Whether a key was found that isn't permitted.
-    fn forbids(&self, found: &Result<(Key<'_>, i128), Reason>) -> bool
-        ensures { result ≡ spec.forbids (permission_value self.entry.now) (found_value found.now) }
-    {
-        match found {
-            Ok((key, _)) => !self.permits(key),
-            Err(_) => false,
-        }
-    }
 }
 
 /// The keys of a set that are permitted, each of which is read again at each look, as those of a key set are.
@@ -138,6 +130,32 @@ impl Permission<'_> {
 pub(crate) struct PermittedKeys<'k> {
     set: ItemRef<'k>,
     permission: Permission<'k>,
+}
+
+/// The items with a permitted key that fits, of those that were looked at so far. (An item is small, and a key is large: the one that is
+/// found is read once more.)
+#[derive(Clone, Copy)]
+pub(crate) enum FittingItems<'k> {
+    /// None so far.
+    Nothing,
+    /// One.
+    One(ItemRef<'k>),
+    /// Two or more.
+    Several,
+}
+
+/// Whether an item is a usable key that is permitted and fits. It is never inlined: no key is on the stack when the one that fits is read
+/// again.
+#[inline(never)]
+pub(crate) fn is_fitting(item: &ItemRef<'_>, query: &Query<'_>, permission: &Permission<'_>) -> bool
+    ensures { result
+        ≡ spec.is_fitting (question query.now) (permission_value permission.now)
+        (usable (placed item.now)) }
+{
+    match Key::read(item.bytes, item.place) {
+        Ok(key) => permission.permits(&key) && query.mismatch(&key).is_none(),
+        Err(_) => false,
+    }
 }
 
 /// What is found where there are no keys: why none fits. It is never inlined: a reader of keys is on the stack then, and no table.
@@ -148,20 +166,62 @@ fn found_in_none<'k>(query: &Query) -> Result<(Key<'k>, i128), Reason>
     KeyTable::<1>::new().find(query)
 }
 
-/// What is found among some keys and others, by what is found among each.
-#[inline(never)]
-fn found_among_both<'k>(
-    before: Result<(Key<'k>, i128), Reason>,
-    after: Result<(Key<'k>, i128), Reason>,
-) -> Result<(Key<'k>, i128), Reason>
-    ensures { found_value result ≡ spec.both (found_value before.entry) (found_value after.entry) }
+/// The number of the algorithm that a key which fits is used with: that of the protected bucket, without it that of the unprotected one,
+/// and without both the key's own.
+fn number_of(query: &Query<'_>, own: Option<Label<'_>>) -> Option<i128>
+    ensures { let q = question query.now in
+        result ≡ spec.number_among q.protected_alg q.unprotected_alg (option_map label_value own.entry) }
 {
-    match (before, after) {
-        (Ok(_), Ok(_)) => Err(Reason::AmbiguousKey),
-        (Ok(_), Err(Reason::AmbiguousKey)) => after,
-        (Ok(_), Err(_)) => before,
-        (Err(Reason::AmbiguousKey), _) => before,
-        (Err(_), _) => after,
+    match query.protected_alg.or(query.unprotected_alg).or(own) {
+        Some(Label::Int(number)) => Some(number),
+        _ => None,
+    }
+}
+
+/// What is found in an item whose key fits. It is never inlined: what reads the key isn't on the stack when others are looked at.
+#[inline(never)]
+fn found_in<'k>(item: &ItemRef<'k>, query: &Query) -> Result<(Key<'k>, i128), Reason>
+    requires fits { fits_alone (question query.now) (usable (placed item.now)) ≡ true }
+    ensures { found_value result
+        ≡ chosen (question query.now) (filter_map usable (placed item.now ∷ [])) }
+{
+    match Key::read(item.bytes, item.place) {
+        Ok(key) => match number_of(query, key.alg) {
+            Some(number) => Ok((key, number)),
+            None => Err(Reason::NoKey),
+        },
+        Err(_) => Err(Reason::NoKey),
+    }
+}
+
+impl<'k> FittingItems<'k> {
+    /// With one more item, whose key is permitted and fits.
+    fn add(&mut self, item: ItemRef<'k>)
+        ensures { (q : Question) (p : PermissionValue) (before : List KeyValue)
+            → spec.is_fitting q p (usable (placed item.entry)) ≡ true → Among q p before self.old
+            → Among q p (before ++ permitted_of p (filter_map usable (placed item.entry ∷ [])))
+            self.new }
+    {
+        match self {
+            FittingItems::Nothing => *self = FittingItems::One(item),
+            FittingItems::One(_) => *self = FittingItems::Several,
+            FittingItems::Several => {}
+        }
+    }
+
+    /// With one more item, if its key is permitted and fits.
+    fn meet(&mut self, item: ItemRef<'k>, query: &Query, permission: &Permission<'_>)
+        ensures { (before : List KeyValue)
+            → Among (question query.now) (permission_value permission.now) before self.old
+            → Among (question query.now) (permission_value permission.now)
+            (before
+            ++ permitted_of (permission_value permission.now)
+            (filter_map usable (placed item.entry ∷ [])))
+            self.new }
+    {
+        if is_fitting(&item, query, permission) {
+            self.add(item);
+        }
     }
 }
 
@@ -172,40 +232,40 @@ impl<'k> PermittedKeys<'k> {
         permission: Permission<'k>,
     ) -> Result<PermittedKeys<'k>, Refusal>
         ensures { seen_by keys_permitted result
-            ≡ spec.permitted_in (permission_value permission.entry) (keys_of bytes.entry.now) }
+            ≡ permitted_in (permission_value permission.entry) (keys_of bytes.entry.now) }
     {
         KeySet::read(bytes)?;
         let set = ItemRef::read(bytes, 0, NESTING)?;
         Ok(PermittedKeys { set, permission })
     }
 
-    /// What is found in an item that should be a key.
-    fn find_in(&self, item: ItemRef<'k>, query: &Query) -> Result<(Key<'k>, i128), Reason>
-        ensures { found_value result ≡ chosen (question query.now)
-            (filter (spec.permits (permission_value self.entry.now.permission))
-            (filter_map usable (placed item.entry ∷ []))) }
+    /// The elements of an array whose keys are permitted and fit.
+    fn fitting_among(&self, array: &ItemRef<'k>, query: &Query) -> FittingItems<'k>
+        ensures { Among (question query.now) (permission_value self.now.permission)
+            (permitted_of (permission_value self.now.permission)
+            (filter_map usable (children_of (placed array.now))))
+            result }
     {
-        let Some(set) = KeySet::of_key(item) else {
-            return found_in_none(query);
-        };
-        let found = set.find(query);
-        if self.permission.forbids(&found) {
-            return found_in_none(query);
+        let mut fitting = FittingItems::Nothing;
+        'elements: for element in Items::of(array) {
+            fitting.meet(element, query, &self.permission);
         }
-        found
+        fitting
     }
 
-    /// What is found among the elements of an array.
-    fn find_among(&self, array: &ItemRef<'k>, query: &Query) -> Result<(Key<'k>, i128), Reason>
-        ensures { found_value result ≡ chosen (question query.now)
-            (filter (spec.permits (permission_value self.entry.now.permission))
-            (filter_map usable (children_of (placed array.entry.now)))) }
+    /// The items whose keys are permitted and fit.
+    fn fitting(&self, query: &Query) -> FittingItems<'k>
+        ensures { Among (question query.now) (permission_value self.now.permission)
+            (keys_permitted self.now) result }
     {
-        let mut found = found_in_none(query);
-        'elements: for element in Items::of(array) {
-            found = found_among_both(found, self.find_in(element, query));
+        let mut fitting = FittingItems::Nothing;
+        if self.set.is_array() {
+            return self.fitting_among(&self.set, query);
         }
-        found
+        if self.set.is_map() {
+            fitting.meet(self.set, query, &self.permission);
+        }
+        fitting
     }
 }
 
@@ -217,12 +277,10 @@ impl KeyMeaning for PermittedKeys<'_> {
 
 impl<'k> Keys<'k> for PermittedKeys<'k> {
     fn find(&self, query: &Query) -> Result<(Key<'k>, i128), Reason> {
-        if self.set.is_array() {
-            return self.find_among(&self.set, query);
+        match self.fitting(query) {
+            FittingItems::Nothing => found_in_none(query),
+            FittingItems::One(item) => found_in(&item, query),
+            FittingItems::Several => Err(Reason::AmbiguousKey),
         }
-        if self.set.is_map() {
-            return self.find_in(self.set, query);
-        }
-        found_in_none(query)
     }
 }
