@@ -1,5 +1,5 @@
 -- What the options of `cwt` require, as the code reads them.
-use Rattle.std.proofs.Common.{◌≡◌, ◌∙◌, ℕ, ℤ, List, [], Option, Some, None, Result, Ok, arith, length, nat_lt, refl, ap, subst, sym, option_map, codes}
+use Rattle.std.proofs.Common.{◌≡◌, ◌∙◌, ℕ, ℤ, List, [], ◌∷◌, ◌++◌, append_assoc, Option, Some, None, Result, Ok, arith, length, nat_lt, refl, ap, subst, sym, option_map, codes}
 use Rattle.std.proofs.lemmas.Grind.{common_steps}
 use Rattle.std.specs.Prelude.{Bool, true, ◌&&◌, is_some, map, not, slice_index, unwrap_or}
 use Rattle.std.specs.Borrow.{Bor}
@@ -15,7 +15,7 @@ use Rattle.cose_cwt.proofs.ClaimNames.{each_claim}
 use Rattle.cose_cwt.specs.Claims.Audience.{text_value}
 use Rattle.cose_cwt.specs.Requirements.{name_of}
 use Rattle.cosecmd.specs.Options.{Options, flag_in, number_in, options_of, text_in}
-use Rattle.cosecmd.specs.Requirements.{RequiredFields, audience_required, claims_named, present_in, requirements_for, requirements_with, texts_in, wants_any_audience, with_audience}
+use Rattle.cosecmd.specs.Requirements.{RequiredFields, and_named, audience_required, claims_named, present_in, requirements_for, requirements_with, texts_in, wants_any_audience, with_audience}
 
 -- ---- the claims of `--require`
 
@@ -26,6 +26,11 @@ texts_given matches name names is = ap (λ (all : Option (List Text)). unwrap_or
 
 pub no_texts : (matches : ArgMatches) (name : Text) → None ≡ option_map raw_values (matched_of (found_of matches) name) → texts_in name (options_of matches) ≡ []
 no_texts matches name is = ap (λ (all : Option (List Text)). unwrap_or all []) (sym (is ∙ raw_values-rows (found_of matches) name))
+
+pub one_more_claim : (claims : List Claim) (named : Option Claim) (claim : Claim) (others : Option (List Claim)) → named ≡ Some claim →
+    option_map (λ rest. (claims ++ claim ∷ []) ++ rest) others ≡ option_map (λ rest. claims ++ rest) (and_named named others)
+one_more_claim claims named claim None is = rw is refl
+one_more_claim claims named claim (Some rest) is = rw is (ap Some (append_assoc claims (claim ∷ []) rest))
 
 -- ---- numbers that may be left out
 

@@ -135,6 +135,25 @@ impl<'a> Ended<'a> {
         message.first() == Some(&0xd2) || self.has_argument("sign1")
     }
 
+    /// Whether an input is refused for want of room for what is read of it.
+    fn is_past_room(&self) -> bool {
+        contains(self.printed, "PastRoom at ".as_bytes())
+            && !contains(self.printed, "PastRoom at 0\n".as_bytes())
+    }
+
+    /// Whether an input is refused for want of room for its payload.
+    fn is_too_long(&self) -> bool {
+        contains(self.printed, "PayloadTooLong at ".as_bytes())
+            && (self.is_of("cwt") || self.has("--with-payload"))
+    }
+
+    /// Whether larger limits have more of what an input is refused for want of.
+    fn is_past_limits(&self) -> bool {
+        self.is_past_room()
+            || self.is_too_long()
+            || contains(self.printed, "TooDeep at ".as_bytes())
+    }
+
     /// What to say of a message that isn't accepted.
     fn of_refusal(&self) -> Option<&'static str> {
         if self.printed.starts_with("fault ".as_bytes()) {
@@ -148,14 +167,7 @@ impl<'a> Ended<'a> {
         if is_detached && self.is_of("show") {
             return Some(WITHOUT_PAYLOAD);
         }
-        let is_past_room = contains(self.printed, "PastRoom at ".as_bytes())
-            && !contains(self.printed, "PastRoom at 0\n".as_bytes());
-        let is_too_long = contains(self.printed, "PayloadTooLong at ".as_bytes())
-            && (self.is_of("cwt") || self.has("--with-payload"));
-        let is_past_limits = is_past_room
-            || is_too_long
-            || contains(self.printed, "TooDeep at ".as_bytes());
-        if is_past_limits && !self.has_argument("large") {
+        if self.is_past_limits() && !self.has_argument("large") {
             return Some(LARGE);
         }
         None

@@ -64,8 +64,8 @@ fn say_no_key(rt: &HostRuntime, option: &str, argument: &str) -> bool {
     }
 }
 
-/// Says of the arguments of a run that has ended what its fault doesn't say.
-pub fn say_of_arguments(rt: &HostRuntime, ended: &Ended) {
+/// Says of the arguments in hexadecimal of a run that has ended which of them isn't.
+fn say_of_digits(rt: &HostRuntime, ended: &Ended) {
     for &option in HEXADECIMAL {
         if ended.has_printed("fault line ", option) {
             if let Some(argument) = ended.argument_of(option) {
@@ -73,18 +73,35 @@ pub fn say_of_arguments(rt: &HostRuntime, ended: &Ended) {
             }
         }
     }
-    let option = if ended.printed.starts_with("fault keys ".as_bytes()) {
-        "keys"
-    } else if ended.printed.starts_with("fault key ".as_bytes()) {
-        "key"
-    } else {
-        return;
-    };
-    let is_said = match ended.argument_of(option) {
-        Some(argument) => say_no_key(rt, option, argument),
-        None => false,
-    };
-    if !is_said && ended.printed == BAD_SET.as_bytes() {
+}
+
+/// The option whose argument has the keys that were refused.
+fn option_of_keys(ended: &Ended) -> Option<&'static str> {
+    if ended.printed.starts_with("fault keys ".as_bytes()) {
+        return Some("keys");
+    }
+    if ended.printed.starts_with("fault key ".as_bytes()) {
+        return Some("key");
+    }
+    None
+}
+
+/// Says of the argument of this option why it has no key set, or no key.
+fn say_of_keys(rt: &HostRuntime, ended: &Ended, option: &str) {
+    if let Some(argument) = ended.argument_of(option) {
+        if say_no_key(rt, option, argument) {
+            return;
+        }
+    }
+    if ended.printed == BAD_SET.as_bytes() {
         let _ = eprintln!(rt; "cosecmd: {SET}");
+    }
+}
+
+/// Says of the arguments of a run that has ended what its fault doesn't say.
+pub fn say_of_arguments(rt: &HostRuntime, ended: &Ended) {
+    say_of_digits(rt, ended);
+    if let Some(option) = option_of_keys(ended) {
+        say_of_keys(rt, ended, option);
     }
 }

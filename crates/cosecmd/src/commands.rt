@@ -1,6 +1,9 @@
-//! The commands of the program and their options, as tables, and what clap gets of them.
+//! The commands of the program and their options, as tables.
 
-use clap::{Arg, ArgAction, ArgGroup, Command, value_parser};
+mod building;
+
+use building::with_commands;
+use clap::Command;
 use std::alloc::{AllocError, Global};
 
 /// The version of the program, which `--version` prints.
@@ -80,40 +83,36 @@ const FORMS: &[&str] = &["cbor", "hex", "base64url", "auto"];
 /// The values of `--limits`.
 const LIMITS_NAMED: &[&str] = &["small", "large"];
 
-/// A payload has fewer bytes.
-const PAYLOAD: i64 = 1 << 56;
-
 /// What the argument of an option is.
 #[derive(Clone, Copy)]
 enum Value {
     /// A text, or bytes in hexadecimal, which are read later.
     Text,
-    /// The kind of a message.
-    Kind,
-    /// The name of a claim. The option may be there several times.
-    Claim,
     /// A label, which is read later. The option may be there several times.
     Label,
-    /// Which claims are printed.
-    Shown,
-    /// How the input is written.
-    Form,
-    /// The limits of a run.
-    Limits,
+    /// One of these names.
+    Named(&'static [&'static str]),
+    /// One of these names. The option may be there several times.
+    NamedOften(&'static [&'static str]),
+    /// A number.
+    Number(Number),
+    /// It has none.
+    Flag,
+}
+
+/// A number that is the argument of an option.
+#[derive(Clone, Copy)]
+enum Number {
     /// A time, in seconds since 1970.
     Time,
     /// A number of seconds.
     Seconds,
-    /// A number of seconds that may be as great as dates are.
-    Duration,
-    /// A number of bytes.
+    /// A number of bytes, or of seconds that may be as great as dates are.
     Count,
     /// The number of an HMAC algorithm (RFC 9053 section 3.1).
     Mac,
     /// The number of bytes of a payload.
     Length,
-    /// It has none.
-    Flag,
 }
 
 /// Whether an option has to be there.
@@ -166,7 +165,9 @@ struct Subcommand {
     about: &'static str,
     /// What help says below its options.
     notes: &'static str,
-    /// Its options, in the order in which help lists them.
+    /// The first of its options, in the order in which help lists them: what a message is verified under.
+    checks: &'static [CommandOption],
+    /// Its other options, in that order.
     options: &'static [CommandOption],
     /// Its options of which one has to be there.
     one_of: Option<OneOf>,
@@ -203,7 +204,7 @@ const ALGS: CommandOption = CommandOption {
 const LEAST_SECRET: CommandOption = CommandOption {
     name: "least-secret",
     argument: "N",
-    value: Value::Count,
+    value: Value::Number(Number::Count),
     presence: Presence::Optional,
     help: "The fewest bytes of a symmetric key: none that is shorter is used",
 };
@@ -221,7 +222,7 @@ const AAD: CommandOption = CommandOption {
 const KIND: CommandOption = CommandOption {
     name: "kind",
     argument: "KIND",
-    value: Value::Kind,
+    value: Value::Named(KINDS),
     presence: Presence::Default("tagged"),
     help: "The kind of message; with `tagged` either kind, as its tag says",
 };
@@ -266,7 +267,7 @@ const WITH_PAYLOAD: CommandOption = CommandOption {
 const INPUT: CommandOption = CommandOption {
     name: "input",
     argument: "FORM",
-    value: Value::Form,
+    value: Value::Named(FORMS),
     presence: Presence::Optional,
     help: "How standard input is written: `cbor`, as without this option, `hex` or `base64url` (RFC 4648), or `auto`, which tells by the first bytes; blanks in a text are skipped",
 };
@@ -275,7 +276,7 @@ const INPUT: CommandOption = CommandOption {
 const LIMITS: CommandOption = CommandOption {
     name: "limits",
     argument: "LIMITS",
-    value: Value::Limits,
+    value: Value::Named(LIMITS_NAMED),
     presence: Presence::Optional,
     help: "How much room there is: `small`, as without this option, or `large` (headers of 65,535 bytes nested 16 deep, 256 keys, claims of 65,535 bytes)",
 };
@@ -311,7 +312,7 @@ const PAYLOAD_FILE: CommandOption = CommandOption {
 const PAYLOAD_LENGTH: CommandOption = CommandOption {
     name: "payload-length",
     argument: "N",
-    value: Value::Length,
+    value: Value::Number(Number::Length),
     presence: Presence::WithAndWithout("payload-file", "payload"),
     help: "The number of bytes of the payload, below 2^56: the first of --payload-file, which may be a pipe then",
 };
@@ -356,7 +357,7 @@ const SEQUENCE: CommandOption = CommandOption {
 const NOW: CommandOption = CommandOption {
     name: "now",
     argument: "N",
-    value: Value::Time,
+    value: Value::Number(Number::Time),
     presence: Presence::Required,
     help: "The current time, in seconds since 1970; the program reads no clock",
 };
@@ -365,7 +366,7 @@ const NOW: CommandOption = CommandOption {
 const LEEWAY: CommandOption = CommandOption {
     name: "leeway",
     argument: "N",
-    value: Value::Seconds,
+    value: Value::Number(Number::Seconds),
     presence: Presence::Default("0"),
     help: "By how many seconds the clocks of issuer and reader may differ",
 };
@@ -410,7 +411,7 @@ const SUB: CommandOption = CommandOption {
 const REQUIRE: CommandOption = CommandOption {
     name: "require",
     argument: "CLAIM",
-    value: Value::Claim,
+    value: Value::NamedOften(CLAIMS),
     presence: Presence::Optional,
     help: "A claim that a token has to have; the option may be there several times",
 };
@@ -419,7 +420,7 @@ const REQUIRE: CommandOption = CommandOption {
 const MAX_LIFETIME: CommandOption = CommandOption {
     name: "max-lifetime",
     argument: "N",
-    value: Value::Duration,
+    value: Value::Number(Number::Count),
     presence: Presence::Optional,
     help: "The most seconds from now, and from iat, to exp, which has to be there",
 };
@@ -428,7 +429,7 @@ const MAX_LIFETIME: CommandOption = CommandOption {
 const MAX_AGE: CommandOption = CommandOption {
     name: "max-age",
     argument: "N",
-    value: Value::Duration,
+    value: Value::Number(Number::Count),
     presence: Presence::Optional,
     help: "The most seconds since iat, which has to be there and not in the future",
 };
@@ -446,7 +447,7 @@ const TEXT: CommandOption = CommandOption {
 const SHOWN_CLAIMS: CommandOption = CommandOption {
     name: "claims",
     argument: "WHICH",
-    value: Value::Shown,
+    value: Value::Named(SHOWN),
     presence: Presence::Optional,
     help: "Print the other claims too, in diagnostic notation (RFC 8949 section 8), in the order of the payload",
 };
@@ -455,7 +456,7 @@ const SHOWN_CLAIMS: CommandOption = CommandOption {
 const ALG: CommandOption = CommandOption {
     name: "alg",
     argument: "N",
-    value: Value::Mac,
+    value: Value::Number(Number::Mac),
     presence: Presence::Required,
     help: "The algorithm: HMAC 256/64 (4), 256/256 (5), 384/384 (6) or 512/512 (7)",
 };
@@ -482,7 +483,7 @@ const KEY_FILE: CommandOption = CommandOption {
 const LENGTH: CommandOption = CommandOption {
     name: "length",
     argument: "N",
-    value: Value::Length,
+    value: Value::Number(Number::Length),
     presence: Presence::Required,
     help: "The number of bytes of the payload, below 2^56; fewer on standard input end with status 2, and what follows them is left unread",
 };
@@ -510,224 +511,149 @@ const KEY_BYTES: Option<OneOf> = Some(OneOf {
     other: "key-file",
 });
 
-// The commands, in the order in which help lists them. One table of all of them is more than a check takes.
+// The time that a check takes for a table grows with the square of its length, so each command has tables of its own.
 
-/// The commands that show or verify a message.
-const MESSAGE_COMMANDS: &[Subcommand] = &[
+/// What a message of any kind is verified under.
+const CHECKS: &[CommandOption] = &[KEYS, KEYS_FILE, ALGS, LEAST_SECRET, AAD, KIND, VOUCH];
+
+/// What a COSE_Sign1 is read under.
+const DIGEST_CHECKS: &[CommandOption] = &[KEYS, KEYS_FILE, ALGS, LEAST_SECRET, AAD];
+
+/// The other options of `verify`.
+const VERIFY_OPTIONS: &[CommandOption] = &[
+    DETACHED,
+    PAYLOAD_FILE,
+    PAYLOAD_LENGTH,
+    PAYLOAD_TO,
+    HEADER,
+    SEQUENCE,
+    INPUT,
+    LIMITS,
+];
+
+/// The other options of `cwt`.
+const CWT_OPTIONS: &[CommandOption] = &[
+    NOW,
+    LEEWAY,
+    AUD,
+    REQUIRE_AUD,
+    ISS,
+    SUB,
+    REQUIRE,
+    MAX_LIFETIME,
+    MAX_AGE,
+    TEXT,
+    SHOWN_CLAIMS,
+    TOKENS,
+    INPUT,
+    LIMITS,
+];
+
+/// The other options of `digest`.
+const DIGEST_OPTIONS: &[CommandOption] = &[DETACHED, PAYLOAD_FILE, PAYLOAD_LENGTH, INPUT, LIMITS];
+
+/// The options of `show`.
+const SHOW_OPTIONS: &[CommandOption] = &[
+    KIND,
+    DIAGNOSTIC,
+    WITHOUT_PAYLOAD,
+    WITH_PAYLOAD,
+    INPUT,
+    LIMITS,
+];
+
+/// The options of `keys`.
+const KEYS_OPTIONS: &[CommandOption] = &[KEYS, KEYS_FILE, FOR_MESSAGE, KIND, INPUT];
+
+/// The options of `make`.
+const MAKE_OPTIONS: &[CommandOption] = &[ALG, KEY, KEY_FILE, LENGTH, KID, AAD];
+
+/// The command `show`.
+fn show() -> Subcommand {
     Subcommand {
         name: "show",
         about: "Shows the shape and the headers of the COSE message on standard input, under no key",
         notes: SHOW_NOTES,
-        options: &[
-            KIND,
-            DIAGNOSTIC,
-            WITHOUT_PAYLOAD,
-            WITH_PAYLOAD,
-            INPUT,
-            LIMITS,
-        ],
+        checks: &[],
+        options: SHOW_OPTIONS,
         one_of: None,
-    },
+    }
+}
+
+/// The command `verify`.
+fn verify() -> Subcommand {
     Subcommand {
         name: "verify",
         about: "Verifies the COSE message on standard input and prints the verdict",
         notes: VERIFY_NOTES,
-        options: &[
-            KEYS,
-            KEYS_FILE,
-            ALGS,
-            LEAST_SECRET,
-            AAD,
-            KIND,
-            VOUCH,
-            DETACHED,
-            PAYLOAD_FILE,
-            PAYLOAD_LENGTH,
-            PAYLOAD_TO,
-            HEADER,
-            SEQUENCE,
-            INPUT,
-            LIMITS,
-        ],
+        checks: CHECKS,
+        options: VERIFY_OPTIONS,
         one_of: KEY_SET,
-    },
-];
+    }
+}
 
-/// The commands that admit a token, or print a digest.
-const TOKEN_COMMANDS: &[Subcommand] = &[
+/// The command `cwt`.
+fn cwt() -> Subcommand {
     Subcommand {
         name: "cwt",
         about: "Admits the CBOR Web Token on standard input and prints its claims",
         notes: CWT_NOTES,
-        options: &[
-            KEYS,
-            KEYS_FILE,
-            ALGS,
-            LEAST_SECRET,
-            AAD,
-            KIND,
-            VOUCH,
-            NOW,
-            LEEWAY,
-            AUD,
-            REQUIRE_AUD,
-            ISS,
-            SUB,
-            REQUIRE,
-            MAX_LIFETIME,
-            MAX_AGE,
-            TEXT,
-            SHOWN_CLAIMS,
-            TOKENS,
-            INPUT,
-            LIMITS,
-        ],
+        checks: CHECKS,
+        options: CWT_OPTIONS,
         one_of: KEY_SET,
-    },
+    }
+}
+
+/// The command `digest`.
+fn digest() -> Subcommand {
     Subcommand {
         name: "digest",
         about: "Prints what the signature of the COSE_Sign1 on standard input has to be verified with",
         notes: DIGEST_NOTES,
-        options: &[
-            KEYS,
-            KEYS_FILE,
-            ALGS,
-            LEAST_SECRET,
-            AAD,
-            DETACHED,
-            PAYLOAD_FILE,
-            PAYLOAD_LENGTH,
-            INPUT,
-            LIMITS,
-        ],
+        checks: DIGEST_CHECKS,
+        options: DIGEST_OPTIONS,
         one_of: KEY_SET,
-    },
-];
+    }
+}
 
-/// The commands that list keys, or make a message.
-const OTHER_COMMANDS: &[Subcommand] = &[
+/// The command `keys`.
+fn keys() -> Subcommand {
     Subcommand {
         name: "keys",
         about: "Lists the items of a key set: the usable keys, and why an item is none",
         notes: KEYS_NOTES,
-        options: &[KEYS, KEYS_FILE, FOR_MESSAGE, KIND, INPUT],
+        checks: &[],
+        options: KEYS_OPTIONS,
         one_of: KEY_SET,
-    },
+    }
+}
+
+/// The command `make`.
+fn make() -> Subcommand {
     Subcommand {
         name: "make",
         about: "Makes a COSE_Mac0 of the payload on standard input and writes its bytes",
         notes: MAKE_NOTES,
-        options: &[ALG, KEY, KEY_FILE, LENGTH, KID, AAD],
+        checks: &[],
+        options: MAKE_OPTIONS,
         one_of: KEY_BYTES,
-    },
-];
-
-impl Value {
-    /// The option, which takes such an argument, with this name in help.
-    fn limits<'a>(self, arg: Arg<'a>, name: &'static str) -> Arg<'a> {
-        let arg = match self {
-            Value::Flag => return arg.action(ArgAction::SetTrue),
-            _ => arg.value_name(name),
-        };
-        match self {
-            Value::Text | Value::Flag => arg,
-            Value::Kind => arg.value_parser(KINDS),
-            Value::Claim => arg.value_parser(CLAIMS).action(ArgAction::Append),
-            Value::Label => arg.action(ArgAction::Append),
-            Value::Shown => arg.value_parser(SHOWN),
-            Value::Form => arg.value_parser(FORMS),
-            Value::Limits => arg.value_parser(LIMITS_NAMED),
-            Value::Time => arg.value_parser(value_parser!(i64).range(0..)),
-            Value::Seconds => arg.value_parser(value_parser!(u32)),
-            Value::Duration | Value::Count => arg.value_parser(value_parser!(u64)),
-            Value::Mac => arg.value_parser(value_parser!(u8).range(4..=7)),
-            Value::Length => arg.value_parser(value_parser!(u64).range(0..PAYLOAD)),
-        }
     }
 }
 
-impl CommandOption {
-    /// The option as clap takes it.
-    fn arg<'a>(self, alloc: Global) -> Result<Arg<'a>, AllocError> {
-        let arg = Arg::new(alloc, self.name).long(self.name).help(self.help);
-        let arg = self.value.limits(arg, self.argument);
-        match self.presence {
-            Presence::Optional => Ok(arg),
-            Presence::Required => Ok(arg.required(true)),
-            Presence::Default(argument) => Ok(arg.default_value(argument)),
-            Presence::Without(others) => arg.conflicts_with_all(others),
-            Presence::WithAndWithout(needed, other) => {
-                arg.requires_arg(needed)?.conflicts_with(other)
-            }
-        }
-    }
-}
-
-impl OneOf {
-    /// The two options as clap takes them.
-    fn group<'a>(self, alloc: Global) -> Result<ArgGroup<'a>, AllocError> {
-        ArgGroup::new(alloc, self.name)
-            .required(true)
-            .arg(self.option)?
-            .arg(self.other)
-    }
-}
-
-impl Subcommand {
-    /// The command as clap takes it.
-    fn command<'a>(self, alloc: Global) -> Result<Command<'a>, AllocError> {
-        let mut command = Command::new(alloc, self.name)
-            .about(self.about)
-            .after_help(self.notes);
-        for option in self.options {
-            command = command.arg(option.arg(alloc)?)?;
-        }
-        match self.one_of {
-            Some(one_of) => command.group(one_of.group(alloc)?),
-            None => Ok(command),
-        }
-    }
-}
-
-/// A line with these commands too.
-fn with_commands<'a>(
-    alloc: Global,
-    line: Command<'a>,
-    subcommands: &[Subcommand],
-) -> Result<Command<'a>, AllocError> {
-    let mut line = line;
-    for subcommand in subcommands {
-        line = line.subcommand(subcommand.command(alloc)?)?;
-    }
-    Ok(line)
-}
-
-/// A line with the commands on messages too.
-fn with_message_commands<'a>(alloc: Global, line: Command<'a>) -> Result<Command<'a>, AllocError> {
-    with_commands(alloc, line, MESSAGE_COMMANDS)
-}
-
-/// A line with the commands on tokens and digests too.
-fn with_token_commands<'a>(alloc: Global, line: Command<'a>) -> Result<Command<'a>, AllocError> {
-    with_commands(alloc, line, TOKEN_COMMANDS)
-}
-
-/// A line with the other commands too.
-fn with_other_commands<'a>(alloc: Global, line: Command<'a>) -> Result<Command<'a>, AllocError> {
-    with_commands(alloc, line, OTHER_COMMANDS)
-}
-
-/// The commands and their options.
-pub fn line<'a>(alloc: Global) -> Result<Command<'a>, AllocError> {
-    let line = Command::new(alloc, "cosecmd")
+/// The program, before its commands.
+fn program<'a>(alloc: Global) -> Command<'a> {
+    Command::new(alloc, "cosecmd")
         .about(
             "Verifies COSE messages (RFC 9052) and CBOR Web Tokens (RFC 8392) that come on standard input, and makes COSE_Mac0",
         )
         .version(VERSION)
         .after_help(NOTES)
         .subcommand_required(true)
-        .arg_required_else_help(true);
-    let line = with_message_commands(alloc, line)?;
-    let line = with_token_commands(alloc, line)?;
-    with_other_commands(alloc, line)
+        .arg_required_else_help(true)
+}
+
+/// The commands, in the order in which help lists them, and their options.
+pub fn line<'a>(alloc: Global) -> Result<Command<'a>, AllocError> {
+    let subcommands = [show(), verify(), cwt(), digest(), keys(), make()];
+    with_commands(alloc, program(alloc), &subcommands)
 }

@@ -58,9 +58,7 @@ impl NamedFiles for HostRuntime {
             return open_block_device(File::open(self, name)?);
         }
         length_of_regular(&metadata)?;
-        let file = File::open(self, name)?;
-        let length = length_of_regular(&file.metadata()?)?;
-        Ok((file, length))
+        open_regular(self, name)
     }
 }
 
@@ -73,6 +71,13 @@ fn length_of_regular(metadata: &Metadata) -> io::Result<u64>
         return Ok(metadata.len());
     }
     Err(Error::from(ErrorKind::InvalidInput))
+}
+
+/// The regular file of this name, opened, and the number of its bytes.
+fn open_regular(rt: &HostRuntime, name: &str) -> io::Result<(File, u64)> {
+    let file = File::open(rt, name)?;
+    let length = length_of_regular(&file.metadata()?)?;
+    Ok((file, length))
 }
 
 /// A block device that is open, at its first byte, and the number of its bytes, which its metadata doesn't have.

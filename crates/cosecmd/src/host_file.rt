@@ -5,7 +5,7 @@ ghost use Rattle.std.specs.Prelude.{◌≡◌, true, IfErr, IfOk};
 ghost use Rattle.std.specs.Fs.{asks_create_new};
 
 use crate::new_file::{NewFiles, Standing};
-use std::alloc::Global;
+use std::alloc::{AllocError, Global};
 use std::fs::{File, Metadata, OpenOptions};
 use std::io::{BufWriter, Error, ErrorKind, Seek, SeekFrom, Write};
 use std::os::unix::fs::{MetadataExt, OpenOptionsExt};
@@ -86,15 +86,20 @@ fn nameless(rt: &HostRuntime, name: &str) -> io::Result<File> {
     Ok(file)
 }
 
+/// The name with these digits of a file in the same folder as that of this name.
+fn part_name(alloc: Global, name: &str, digits: &str) -> Result<String, AllocError> {
+    match name.rsplit_once('/') {
+        Some((folder, _)) => format!(in alloc; "{folder}/cosecmd-{digits}.part"),
+        None => format!(in alloc; "cosecmd-{digits}.part"),
+    }
+}
+
 /// A name in the same folder that no file is likely to have. It doesn't begin with this name, which may be as long as any.
 fn temporary_name(rt: &HostRuntime, alloc: Global, name: &str) -> io::Result<String> {
     let mut random = [0u8; 8];
     rt.fill_bytes(&mut random)?;
     let digits = hex::encode(alloc, random.as_slice())?;
-    match name.rsplit_once('/') {
-        Some((folder, _)) => Ok(format!(in alloc; "{folder}/cosecmd-{digits}.part")?),
-        None => Ok(format!(in alloc; "cosecmd-{digits}.part")?),
-    }
+    Ok(part_name(alloc, name, digits.as_str())?)
 }
 
 /// Copies a file from its first byte, and has the system write the copy.

@@ -213,24 +213,34 @@ impl NotedFile<'_> {
         }
     }
 
-    /// Says what there is to say of the first bytes.
-    fn say(&self) {
+    /// Says in which form the first bytes are, where it is one that isn't read.
+    fn say_form(&self) {
         let option = self.option;
-        let first = self.first.known();
-        if let Some(form) = form_of(first) {
+        if let Some(form) = form_of(self.first.known()) {
             let (name, advice) = (form.name(), form.advice_on_keys());
             let _ = eprintln!(self.rt;
                 "cosecmd: the file of --{option} begins as {name} does; {advice}"
             );
         }
-        if is_no_key(first) {
+    }
+
+    /// Whether the first bytes may be those of a secret key.
+    fn may_be_secret(&self) -> bool {
+        let first = self.first.known();
+        (self.option == "key-file" || is_secret(first)) && !is_published(first)
+    }
+
+    /// Says what there is to say of the first bytes.
+    fn say(&self) {
+        let option = self.option;
+        self.say_form();
+        if is_no_key(self.first.known()) {
             let _ = eprintln!(self.rt;
                 "cosecmd: the file of --{option} begins as no key in CBOR does; of a secret examples/cose_key \
                 (installed: cosecmd-key) --secret-file makes one"
             );
         }
-        let may_be_secret = option == "key-file" || is_secret(first);
-        if self.is_open_to_others && may_be_secret && !is_published(first) {
+        if self.is_open_to_others && self.may_be_secret() {
             let _ = eprintln!(self.rt;
                 "cosecmd: others may read or change the file of --{option}, which has a secret key"
             );
