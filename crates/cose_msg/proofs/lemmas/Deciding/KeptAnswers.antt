@@ -1,10 +1,14 @@
 -- What is known of a call whose answer was kept before.
 use Rattle.std.proofs.Common.{◌≡◌, ◌↔◌, Bool, true, false, Option, Some, None, Result, Ok, Err, refl, sym, ap, subst}
-use Rattle.std.specs.Prelude.{◌||◌}
+use Rattle.std.specs.Prelude.{◌||◌, if◌then◌else◌}
+use Rattle.cose_msg.specs.declared.status.Status.{Status}
+use Rattle.cose_msg.specs.declared.status.Status.TheVariants.{Stopped}
 use Rattle.cose_msg.specs.declared.verdict.Stop.{Stop}
 use Rattle.cose_msg.specs.declared.verdict.Stop.TheVariants as stops
+use Rattle.cose_msg.specs.declared.verdict.Verdict.{Verdict}
 use Rattle.cose_msg.specs.Kept.{answer_kept, answered_again}
 use Rattle.cose_msg.specs.Run.{stops_for_intake, stops_for_sink}
+use Rattle.cose_msg.specs.Status.{is_complete}
 
 pub kept_again : {A : Type 0} (stopped : Bool) (answer : Option A) (result : Result A Stop) → answer_kept stopped answer ≡ Some result → answer_kept stopped answer ≡ Some (answered_again result)
 kept_again true answer result e = let is : Err stops.Again ≡ result = cc in ap (λ r. Some (answered_again r)) is
@@ -30,3 +34,9 @@ kept_sink false None result e = absurd cc
 pub unfailed : (failed stops : Bool) → stops ≡ false → failed ≡ (failed || stops)
 unfailed true stops e = refl
 unfailed false stops e = sym e
+
+-- The verdict on a complete message, which is known, is kept.
+pub known_is_kept : (stopped : Bool) (said : Status) (known : Option Verdict) (verdict : Verdict) → is_complete (if stopped then Stopped else said) ≡ true → known ≡ Some verdict →
+    answer_kept stopped known ≡ Some (Ok verdict)
+known_is_kept true said known verdict complete is = absurd cc
+known_is_kept false said known verdict complete is = rw is refl

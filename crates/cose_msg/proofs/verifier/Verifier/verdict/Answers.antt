@@ -3,7 +3,9 @@ use Rattle.std.proofs.lemmas.Grind.{common_steps}
 use Rattle.cose_msg.specs.Laws.{then_verified}
 use Rattle.cose_msg.proofs.lemmas.Run.Answered.{verdict_so_far}
 use Rattle.cose_msg.specs.Kept.{verdict_in}
+use Rattle.cose_msg.specs.Status.{status_of_phase}
 use Rattle.cose_msg.proofs.lemmas.Deciding.Decisions.{reads_on_with_verdict}
+use Rattle.cose_msg.proofs.lemmas.Deciding.KeptAnswers.{known_is_kept}
 use Rattle.cose_msg.proofs.lemmas.Deciding.Untouched.{one_kept}
 use Rattle.cose_msg.proofs.lemmas.Run.Runs.{counted_meaning}
 use Rattle.cose_msg.proofs.lemmas.Feeding.Statuses.{complete_stays}
@@ -22,7 +24,8 @@ pub returns-in-Some-clause-status : goal.returns-in-Some-clause-status
 returns-in-Some-clause-status g c = λ setting s B h. rw h.goes_on (complete_stays c.args.self.now.stopped _ h.goes_on c.requires.complete)
 
 pub returns-in-Some-clause-kept : goal.returns-in-Some-clause-kept
-returns-in-Some-clause-kept g c = grind (arith, common_steps)
+returns-in-Some-clause-kept g c =
+    known_is_kept c.args.self.now.stopped (status_of_phase c.args.self.now.reader.phase) (verdict_in c.args.self.now.reader.phase) c.in-Some.verdict c.requires.complete (sym c.known_verdict.ensures ∙ c.in-Some.is)
 
 pub returns-in-Some-clause-again : goal.returns-in-Some-clause-again
 returns-in-Some-clause-again g c = λ verdict kept.

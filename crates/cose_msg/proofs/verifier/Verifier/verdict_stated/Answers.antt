@@ -4,13 +4,16 @@ use Rattle.cose_msg.specs.Elsewhere.{stated_by, then_authenticated}
 use Rattle.cose_msg.specs.Reading.{Reading}
 use Rattle.cose_msg.specs.Task.{to_verify_elsewhere}
 use Rattle.cose_msg.specs.Kept.{verdict_in}
+use Rattle.cose_msg.specs.Status.{status_of_phase}
 use Rattle.cose_msg.proofs.lemmas.Deciding.Decisions.{reads_on_with_verdict}
+use Rattle.cose_msg.proofs.lemmas.Deciding.KeptAnswers.{known_is_kept}
 use Rattle.cose_msg.proofs.lemmas.Deciding.Untouched.{one_kept}
 use Rattle.cose_msg.proofs.lemmas.Run.Runs.{counted_meaning, without_more}
 use Rattle.cose_msg.proofs.verifier.Verifier.verdict_stated.Goals as goal
 
 pub returns-in-Some-clause-kept : goal.returns-in-Some-clause-kept
-returns-in-Some-clause-kept g c = grind (arith, common_steps)
+returns-in-Some-clause-kept g c =
+    known_is_kept c.args.self.now.stopped (status_of_phase c.args.self.now.reader.phase) (verdict_in c.args.self.now.reader.phase) c.in-Some.verdict c.requires.complete (sym c.known_verdict.ensures ∙ c.in-Some.is)
 
 pub returns-in-Some-clause-again : goal.returns-in-Some-clause-again
 returns-in-Some-clause-again g c = λ verdict kept.
