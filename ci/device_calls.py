@@ -12,7 +12,7 @@ import re
 import struct
 from typing import NamedTuple
 
-KEEPING = ("open", "open_detached", "table_read")
+KEEPING = ("open", "open_detached", "open_elsewhere", "open_elsewhere_detached", "table_read")
 HEADER = pathlib.Path(__file__).resolve().parent.parent / "include" / "cose.h"
 # the version of the library that the header is for
 VERSION = sum(int(re.search(rf"COSE_VERSION_{part} (\d+)", HEADER.read_text())[1]) << at for part, at in (("MAJOR", 16), ("MINOR", 8), ("PATCH", 0)))
@@ -208,6 +208,11 @@ class Call:
     def __call__(self, *given):
         device, left, body, filled, end = self.device, list(given), b"", [], 0
         large = "_large_" in self.name
+        if self.name.endswith("asked_key"):
+            raise device.left_out("it gives pointers of the device")
+        if self.name == "cose_edge_wipe_bytes" and given[1] > device.rooms.answer - 16:
+            ctypes.memset(given[0], 0, given[1])  # the package's own memory, for as much of which the board has no room
+            return None
         for word, kind in kinds_of(device.library, self.argtypes):
             value = left.pop(0)
             if word in ("room", "filled"):
