@@ -286,14 +286,18 @@ pub(crate) fn asked_signature<'k, const H: usize, const D: usize>(
 }
 
 /// Whether all bytes are there of a message that is authenticated elsewhere.
-fn is_ready<'k, const H: usize, const D: usize>(verifier: &Verifier<'k, H, D, PermittedKeys<'k>>) -> bool
+fn is_ready<'k, const H: usize, const D: usize>(
+    verifier: &Verifier<'k, H, D, PermittedKeys<'k>>,
+) -> bool
     ensures { result ≡ is_ready (Some verifier.now) }
 {
     verifier.is_complete() && verifier.is_elsewhere()
 }
 
 /// The status where nothing is asked for.
-fn status_unasked<'k, const H: usize, const D: usize>(verifier: &Verifier<'k, H, D, PermittedKeys<'k>>) -> CoseStatus
+fn status_unasked<'k, const H: usize, const D: usize>(
+    verifier: &Verifier<'k, H, D, PermittedKeys<'k>>,
+) -> CoseStatus
     ensures { result ≡ status_unasked (Some verifier.now) }
 {
     if verifier.is_complete() {

@@ -217,11 +217,7 @@ fn first_among<'k>(
 }
 
 /// The first item of a key set whose key is permitted and fits.
-fn first_in<'k>(
-    keys: &'k [u8],
-    query: &Query<'_>,
-    permission: &Permission,
-) -> Option<ItemRef<'k>>
+fn first_in<'k>(keys: &'k [u8], query: &Query<'_>, permission: &Permission) -> Option<ItemRef<'k>>
     ensures { option_map placed result
         ≡ spec.fitting_in (question query.now) (permission_value permission.now)
         (whole 8 (record { bytes = keys.entry.now; place = 0 })) }

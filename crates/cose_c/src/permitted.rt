@@ -239,7 +239,10 @@ impl<'k> FittingItems<'k> {
 
 impl<'k> PermittedKeys<'k> {
     /// Reads a key set (RFC 9052 section 7). It is refused as `KeySet::read` refuses it.
-    pub(crate) fn read(bytes: &'k [u8], permission: Permission) -> Result<PermittedKeys<'k>, Refusal>
+    pub(crate) fn read(
+        bytes: &'k [u8],
+        permission: Permission,
+    ) -> Result<PermittedKeys<'k>, Refusal>
         ensures { seen_by keys_permitted result
             ≡ permitted_in (permission_value permission) (keys_of bytes.entry.now) }
     {

@@ -264,7 +264,9 @@ pub(crate) fn says_good(signature_is_good: i32) -> bool
 }
 
 /// Whether a message is complete, and isn't only inspected.
-fn is_decidable<'k, const H: usize, const D: usize>(verifier: &Verifier<'k, H, D, PermittedKeys<'k>>) -> bool
+fn is_decidable<'k, const H: usize, const D: usize>(
+    verifier: &Verifier<'k, H, D, PermittedKeys<'k>>,
+) -> bool
     ensures { result ≡ is_decidable verifier.now }
 {
     verifier.is_complete() && !verifier.is_inspecting()
@@ -314,7 +316,9 @@ pub(crate) fn verdict<'k, const H: usize, const D: usize>(
 }
 
 /// Begins the next message, under the same keys.
-pub(crate) fn reset<'k, const H: usize, const D: usize>(content: &mut Option<Verifier<'k, H, D, PermittedKeys<'k>>>)
+pub(crate) fn reset<'k, const H: usize, const D: usize>(
+    content: &mut Option<Verifier<'k, H, D, PermittedKeys<'k>>>,
+)
     ensures anew { IsAnew (task_by content.old) content.new }
     ensures reads { (task : Task) (taken payload : List ℕ) → HasRead task taken payload content.old
         → HasRead (given_to [] task) [] [] content.new }
@@ -325,7 +329,9 @@ pub(crate) fn reset<'k, const H: usize, const D: usize>(content: &mut Option<Ver
 }
 
 /// The number of bytes of the message that were taken.
-pub(crate) fn taken<'k, const H: usize, const D: usize>(content: &Option<Verifier<'k, H, D, PermittedKeys<'k>>>) -> u64
+pub(crate) fn taken<'k, const H: usize, const D: usize>(
+    content: &Option<Verifier<'k, H, D, PermittedKeys<'k>>>,
+) -> u64
     ensures value { result ≡ taken_by content.now }
     ensures reads { (task : Task) (taken payload : List ℕ) → HasRead task taken payload content.now
         → result ≡ length taken }
@@ -337,7 +343,9 @@ pub(crate) fn taken<'k, const H: usize, const D: usize>(content: &Option<Verifie
 }
 
 /// How many bytes of the message are held, and 256 for the running hash.
-pub(crate) fn held<'k, const H: usize, const D: usize>(content: &Option<Verifier<'k, H, D, PermittedKeys<'k>>>) -> u64
+pub(crate) fn held<'k, const H: usize, const D: usize>(
+    content: &Option<Verifier<'k, H, D, PermittedKeys<'k>>>,
+) -> u64
     ensures value { result ≡ held_by content.now }
     ensures limit { result ≤ 2 * H + 512 }
 {

@@ -19,7 +19,9 @@ use std::ptr;
 #[derive(Drop)]
 pub struct HeldLargeVerifier {
     pub(crate) message: u64,
-    pub(crate) content: Option<Verifier<'static, LARGE_HEADER, LARGE_NESTING, PermittedKeys<'static>>>,
+    pub(crate) content: Option<
+        Verifier<'static, LARGE_HEADER, LARGE_NESTING, PermittedKeys<'static>>,
+    >,
 }
 
 /// The handle of a verifier: where its block is.
