@@ -286,6 +286,65 @@ static void blocks(void)
     is("feed: after the end", fed.used, 0);
 }
 
+/* A block that is opened under terms answers as cose_authenticate does; terms that it doesn't take leave it closed. */
+static uint8_t opened_under(struct cose_verifier *verifier, const struct cose_terms *terms)
+{
+    struct cose_status status;
+    cose_open_under(verifier, terms, &status);
+    return status.status;
+}
+
+static uint8_t fed_under(struct cose_verifier *verifier, const struct cose_terms *terms)
+{
+    struct cose_message_verdict verdict;
+    struct cose_fed fed;
+    if (opened_under(verifier, terms) != COSE_MORE)
+        return COSE_CLOSED;
+    for (size_t at = 0; at < sizeof mac0; at++)
+        cose_feed(verifier, mac0 + at, 1, &fed);
+    cose_verdict(verifier, 0, &verdict);
+    return verdict.status == COSE_AUTHENTIC ? COSE_AUTHENTIC : verdict.reason;
+}
+
+static void blocks_under_terms(void)
+{
+    struct cose_verifier verifier = {block};
+    struct cose_terms terms;
+    memset(&terms, 0, sizeof terms);
+    terms.size = sizeof terms;
+    terms.keys = keys;
+    terms.keys_length = sizeof keys;
+    cose_begin(block);
+    is("under: a key without alg", fed_under(&verifier, &terms), COSE_REASON_NO_KEY);
+    terms.permitted = COSE_WITHOUT_ALG;
+    is("under: a secret without alg alone", fed_under(&verifier, &terms), COSE_REASON_NO_KEY);
+    terms.permitted = COSE_WITHOUT_ALG | COSE_SHORT_MAC;
+    is("under: both", fed_under(&verifier, &terms), COSE_AUTHENTIC);
+    terms.least_secret = 4;
+    is("under: a secret as long as asked", fed_under(&verifier, &terms), COSE_AUTHENTIC);
+    terms.least_secret = 5;
+    is("under: a shorter one", fed_under(&verifier, &terms), COSE_REASON_NO_KEY);
+    terms.least_secret = 0;
+    terms.algorithms[15] = 5;
+    is("under: an algorithm that the key doesn't name", fed_under(&verifier, &terms), COSE_REASON_NO_KEY);
+    terms.algorithms[15] = 0;
+    terms.understood[0] = 1000;
+    is("under: labels", opened_under(&verifier, &terms), COSE_BAD_ARGUMENT);
+    closed(&verifier);
+    terms.understood[0] = 0;
+    terms.size--;
+    is("under: another size", opened_under(&verifier, &terms), COSE_BAD_ARGUMENT);
+    closed(&verifier);
+    terms.size++;
+    terms.kind = 1;
+    is("under: kind", opened_under(&verifier, &terms), COSE_BAD_ARGUMENT);
+    terms.kind = 0;
+    is("under: again", fed_under(&verifier, &terms), COSE_AUTHENTIC);
+    terms.keys = NULL;
+    is("under: NULL", opened_under(&verifier, &terms), COSE_BAD_ARGUMENT);
+    closed(&verifier);
+}
+
 /* What is stated too early, of a message that isn't authenticated elsewhere, twice, or about another message, is no
  * verdict. */
 static void elsewhere(void)
@@ -647,6 +706,7 @@ int main(void)
     stated();
     choices();
     blocks();
+    blocks_under_terms();
     elsewhere();
     reopened();
     large_reopened();

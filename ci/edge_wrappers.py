@@ -35,6 +35,13 @@ class Parameter:
         """The names of its struct's slices."""
         return [name for name, kind in self.fields().items() if kind == "&[u8]"]
 
+    def unsized(self):
+        """The lines by which the copy of its struct has no size, and no bytes."""
+        lines = [f"        cose_{self.name}_.size = 0;"]
+        for field in self.slices():
+            lines += [f"        cose_{self.name}_.{field} = cose_slice_(NULL);", f"        cose_{self.name}_.{field}_length = 0;"]
+        return lines
+
     def declared(self, in_wrapper):
         """Its declarations, of a slice two."""
         if self.is_slice or self.is_room:
@@ -71,7 +78,7 @@ class Parameter:
             return [f"cose_{'room' if self.is_room else 'slice'}_(NULL)", "0"]
         if self.is_kind or self.name == "alg":
             return ["COSE_NO_KIND_" if self.is_kind else "COSE_NO_ALG_"]
-        return ["0"] if self.kind in NUMBERS else [self.name]
+        return ["0"] if self.kind in NUMBERS else self.passed()
 
 
 def wrapped(text, indent):
@@ -100,11 +107,13 @@ def bad_argument(parameters):
 def answer_to_null(export, parameters):
     """The lines that a function for NULL has where one is NULL."""
     if CLOSING.match(export.name):
+        # a struct of no size is of no version: the library refuses it
+        unsized = [line for it in parameters if it.is_stated for line in it.unsized()]
         nothing = ", ".join(it for each in parameters for it in each.nothing())
         call = wrapped(f"{export.name}({nothing});", "        ")
         names = {it.name for it in parameters}
-        if names & {"kind", "alg"}:
-            return [call, "        return;"]
+        if unsized or names & {"kind", "alg"}:
+            return [*unsized, call, "        return;"]
         return [f"{call} /* the block has nothing then */", *bad_argument(parameters), "        return;"]
     if export.result:
         return ["        return 0;"]

@@ -1156,6 +1156,50 @@ static inline void cose_open_detached(struct cose_verifier *verifier, const uint
         status);
 }
 
+void cose_edge_open_under(struct cose_verifier *verifier, const struct cose_terms *terms, struct cose_status *status);
+
+/** Gives it what a struct of terms states of the next messages, whose defaults are safe, as cose_authenticate takes it: a key that
+ * the terms leave out fits none of them. The struct isn't used any more, the keys and the external data that it names are. A block keeps no
+ * labels: where the terms state labels that are understood, the block isn't opened (COSE_BAD_ARGUMENT). */
+static inline void cose_open_under(struct cose_verifier *verifier, const struct cose_terms *terms, struct cose_status *status)
+{
+    struct cose_terms cose_terms_ = *terms;
+    if (cose_is_null_(terms->keys, terms->keys_length) || cose_is_null_(terms->aad, terms->aad_length)) {
+        cose_terms_.size = 0;
+        cose_terms_.keys = cose_slice_(NULL);
+        cose_terms_.keys_length = 0;
+        cose_terms_.aad = cose_slice_(NULL);
+        cose_terms_.aad_length = 0;
+        cose_edge_open_under(verifier, &cose_terms_, status);
+        return;
+    }
+    cose_terms_.keys = cose_slice_(terms->keys);
+    cose_terms_.aad = cose_slice_(terms->aad);
+    cose_edge_open_under(verifier, &cose_terms_, status);
+}
+
+void cose_edge_open_under_detached(struct cose_verifier *verifier, const struct cose_terms *terms, uint64_t payload_length,
+    struct cose_status *status);
+
+/** The same for messages whose payload is detached, and has so many bytes. */
+static inline void cose_open_under_detached(struct cose_verifier *verifier, const struct cose_terms *terms, uint64_t payload_length,
+    struct cose_status *status)
+{
+    struct cose_terms cose_terms_ = *terms;
+    if (cose_is_null_(terms->keys, terms->keys_length) || cose_is_null_(terms->aad, terms->aad_length)) {
+        cose_terms_.size = 0;
+        cose_terms_.keys = cose_slice_(NULL);
+        cose_terms_.keys_length = 0;
+        cose_terms_.aad = cose_slice_(NULL);
+        cose_terms_.aad_length = 0;
+        cose_edge_open_under_detached(verifier, &cose_terms_, 0, status);
+        return;
+    }
+    cose_terms_.keys = cose_slice_(terms->keys);
+    cose_terms_.aad = cose_slice_(terms->aad);
+    cose_edge_open_under_detached(verifier, &cose_terms_, payload_length, status);
+}
+
 void cose_edge_feed(struct cose_verifier *verifier, const uint8_t *piece, uint64_t piece_length, struct cose_fed *fed);
 
 /** Takes the next bytes of the message: the fewest that settle it, or all of the piece. */
@@ -1320,6 +1364,50 @@ static inline void cose_large_open_detached(struct cose_large_verifier *verifier
     }
     cose_edge_large_open_detached(verifier, cose_slice_(keys), keys_length, cose_slice_(aad), aad_length, cose_kind_(kind),
         payload_length, status);
+}
+
+void cose_edge_large_open_under(struct cose_large_verifier *verifier, const struct cose_terms *terms, struct cose_status *status);
+
+/** Gives it what a struct of terms states of the next messages, whose defaults are safe, as cose_large_authenticate takes it: a key that
+ * the terms leave out fits none of them. The struct isn't used any more, the keys and the external data that it names are. A block keeps no
+ * labels: where the terms state labels that are understood, the block isn't opened (COSE_BAD_ARGUMENT). */
+static inline void cose_large_open_under(struct cose_large_verifier *verifier, const struct cose_terms *terms, struct cose_status *status)
+{
+    struct cose_terms cose_terms_ = *terms;
+    if (cose_is_null_(terms->keys, terms->keys_length) || cose_is_null_(terms->aad, terms->aad_length)) {
+        cose_terms_.size = 0;
+        cose_terms_.keys = cose_slice_(NULL);
+        cose_terms_.keys_length = 0;
+        cose_terms_.aad = cose_slice_(NULL);
+        cose_terms_.aad_length = 0;
+        cose_edge_large_open_under(verifier, &cose_terms_, status);
+        return;
+    }
+    cose_terms_.keys = cose_slice_(terms->keys);
+    cose_terms_.aad = cose_slice_(terms->aad);
+    cose_edge_large_open_under(verifier, &cose_terms_, status);
+}
+
+void cose_edge_large_open_under_detached(struct cose_large_verifier *verifier, const struct cose_terms *terms, uint64_t payload_length,
+    struct cose_status *status);
+
+/** The same for messages whose payload is detached, and has so many bytes. */
+static inline void cose_large_open_under_detached(struct cose_large_verifier *verifier, const struct cose_terms *terms,
+    uint64_t payload_length, struct cose_status *status)
+{
+    struct cose_terms cose_terms_ = *terms;
+    if (cose_is_null_(terms->keys, terms->keys_length) || cose_is_null_(terms->aad, terms->aad_length)) {
+        cose_terms_.size = 0;
+        cose_terms_.keys = cose_slice_(NULL);
+        cose_terms_.keys_length = 0;
+        cose_terms_.aad = cose_slice_(NULL);
+        cose_terms_.aad_length = 0;
+        cose_edge_large_open_under_detached(verifier, &cose_terms_, 0, status);
+        return;
+    }
+    cose_terms_.keys = cose_slice_(terms->keys);
+    cose_terms_.aad = cose_slice_(terms->aad);
+    cose_edge_large_open_under_detached(verifier, &cose_terms_, payload_length, status);
 }
 
 void cose_edge_large_feed(struct cose_large_verifier *verifier, const uint8_t *piece, uint64_t piece_length, struct cose_fed *fed);

@@ -488,6 +488,10 @@ unsafe extern "C" {
         verifier: &mut LargeVerifier, keys: *const u8, keys_length: usize, aad: *const u8, aad_length: usize,
         wanted: u8, payload_length: u64, status: &mut Status,
     );
+    pub(crate) fn cose_edge_large_open_under(verifier: &mut LargeVerifier, terms: &Terms, status: &mut Status);
+    pub(crate) fn cose_edge_large_open_under_detached(
+        verifier: &mut LargeVerifier, terms: &Terms, payload_length: u64, status: &mut Status,
+    );
     pub(crate) fn cose_edge_large_feed(
         verifier: &mut LargeVerifier, piece: *const u8, piece_length: usize, fed: &mut Fed,
     );
@@ -520,6 +524,10 @@ unsafe extern "C" {
     pub(crate) fn cose_edge_open_detached(
         verifier: &mut Verifier, keys: *const u8, keys_length: usize, aad: *const u8, aad_length: usize, wanted: u8,
         payload_length: u64, status: &mut Status,
+    );
+    pub(crate) fn cose_edge_open_under(verifier: &mut Verifier, terms: &Terms, status: &mut Status);
+    pub(crate) fn cose_edge_open_under_detached(
+        verifier: &mut Verifier, terms: &Terms, payload_length: u64, status: &mut Status,
     );
     pub(crate) fn cose_edge_feed(verifier: &mut Verifier, piece: *const u8, piece_length: usize, fed: &mut Fed);
     pub(crate) fn cose_wanted(verifier: &mut Verifier) -> u64;

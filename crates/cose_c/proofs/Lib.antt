@@ -13,6 +13,7 @@ pub mod Limits
 pub mod Members
 pub mod Messages
 pub mod Parts
+pub mod Permitting
 pub mod Requiring
 pub mod Signers
 pub mod Sizes

@@ -1,7 +1,7 @@
 -- The verifier that is in a block.
 use Rattle.std.proofs.Common.{◌≡◌, ℕ, Bool, true, false, List, Some, refl, sym, ap, ◌∙◌, subst, if◌then◌else◌}
 use Rattle.cose_head.specs.declared.reason.Reason.TheVariants.{Truncated}
-use Rattle.cose_map.specs.declared.key_set.KeySet.{KeySet}
+use Rattle.cose_c.specs.declared.permitted.PermittedKeys.{PermittedKeys}
 use Rattle.cose_msg.specs.declared.status.Status.{Status}
 use Rattle.cose_msg.specs.declared.status.Status.TheVariants as statuses
 use Rattle.cose_msg.specs.declared.verdict.Verdict.TheVariants.{Authentic, Refused}
@@ -16,18 +16,18 @@ use Rattle.cose_msg.specs.Verifier.{setting_in, task_of}
 use Rattle.cose_c.specs.Stream.{Content, HasRead, is_decidable, meaning}
 
 -- What a block has read, its verifier has.
-pub read_in : {H D : ℕ} (task : Task) (taken payload : List ℕ) (content : Content H D) (v : Verifier H D KeySet meaning) → content ≡ Some v →
+pub read_in : {H D : ℕ} (task : Task) (taken payload : List ℕ) (content : Content H D) (v : Verifier H D PermittedKeys meaning) → content ≡ Some v →
     HasRead task taken payload content → HasTaken task taken payload v × ShowsReading task taken v
 read_in task taken payload content v is read = subst (HasRead task taken payload) is read
 
 -- A verifier is for the same task where its setting and its purpose are the same.
-pub same_task : {H D : ℕ} (v w : Verifier H D KeySet meaning) → setting_in w ≡ setting_in v → is_inspecting w ≡ is_inspecting v → task_of w ≡ task_of v
+pub same_task : {H D : ℕ} (v w : Verifier H D PermittedKeys meaning) → setting_in w ≡ setting_in v → is_inspecting w ≡ is_inspecting v → task_of w ≡ task_of v
 same_task v w setting inspects =
     let task : Setting → Bool → Task = λ s i. record { setting = s; inspects = i } in
     ap (λ (s : Setting). task s (is_inspecting w)) setting ∙ ap (λ (i : Bool). task (setting_in v) i) inspects
 
 -- There is a verdict once all bytes are there, unless the message is only inspected.
-pub decidable : {H D : ℕ} (v : Verifier H D KeySet meaning) → is_complete (status_in v) ≡ true → is_inspecting v ≡ false → is_decidable v ≡ true
+pub decidable : {H D : ℕ} (v : Verifier H D PermittedKeys meaning) → is_complete (status_in v) ≡ true → is_inspecting v ≡ false → is_decidable v ≡ true
 decidable v done verifies = rw (done, verifies) refl
 
 -- No answer wants bytes.

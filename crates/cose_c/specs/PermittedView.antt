@@ -8,7 +8,7 @@ use Rattle.cose_c.specs.declared.permitted.PermittedKeys.{PermittedKeys}
 use Rattle.cose_c.specs.Permitted.{PermissionValue, permitted_of}
 
 abbrev pub permission_value : Permission → PermissionValue
-permission_value p = record { algorithms = p.algorithms.now; least_secret = p.least_secret; short_mac = p.short_mac; without_alg = p.without_alg }
+permission_value p = record { algorithms = p.algorithms; least_secret = p.least_secret; short_mac = p.short_mac; without_alg = p.without_alg }
 
 abbrev pub keys_permitted : PermittedKeys → List KeyValue
 keys_permitted keys = permitted_of (permission_value keys.permission) (usable_keys (placed keys.set))

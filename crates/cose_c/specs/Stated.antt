@@ -73,6 +73,10 @@ setting_under_terms terms understood =
 abbrev pub setting_stated : CoseTerms → Result Setting CoseStatus
 setting_stated terms = setting_under_terms terms (labels_stated terms.understood)
 
+-- What the messages that a block is fed are verified under. A block keeps no labels: terms that state some are refused (12).
+abbrev pub setting_fed : CoseTerms → Result Setting CoseStatus
+setting_fed terms = if nat_lt 0 (count_before_zero terms.understood) then Err (plain_status 12) else setting_stated terms
+
 -- The same, as the code has it.
 abbrev pub settings_stated : Result (Context PermittedKeys) CoseStatus → Result Setting CoseStatus
 settings_stated (Ok context) = Ok (setting_of keys_permitted context)

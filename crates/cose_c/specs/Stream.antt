@@ -1,9 +1,7 @@
 -- A verifier in a block, which is there once the block is opened, and what a caller gets of it.
 use Rattle.std.specs.Prelude.{◌≡◌, ℕ, ℤ, pos, ◌+◌, ◌-◌, ◌^◌, ◌==◌, if◌then◌else◌, Bool, false, ◌&&◌, not, List, [], Option, Some, None, Result, Ok, Err}
 use Rattle.std.specs.Ordering.{int_eq}
-use Rattle.cose_map.specs.declared.key_set.KeySet.{KeySet}
 use Rattle.cose_map.specs.declared.keys.KeyMeaning.{Ghosts}
-use Rattle.cose_map.specs.KeySet.View.{keys}
 use Rattle.cose_msg.specs.declared.status.Status.{Status}
 use Rattle.cose_msg.specs.declared.status.Status.TheVariants as statuses
 use Rattle.cose_msg.specs.declared.verdict.Stop.{Stop}
@@ -20,16 +18,18 @@ use Rattle.cose_msg.specs.Task.{Task, rules_of, to_verify}
 use Rattle.cose_msg.specs.Verifier.{detaching, task_of}
 use Rattle.cose_c.specs.declared.numbers.CoseStatus.{CoseStatus}
 use Rattle.cose_c.specs.declared.numbers.CoseVerdict.{CoseVerdict}
+use Rattle.cose_c.specs.declared.permitted.PermittedKeys.{PermittedKeys}
 use Rattle.cose_c.specs.declared.stream.CoseFed.{CoseFed}
 use Rattle.cose_c.specs.Numbers.{always_authentic, plain_status, refused_status, verdict_numbers}
+use Rattle.cose_c.specs.PermittedView.{keys_permitted}
 
--- What the keys of a key set mean.
-abbrev pub meaning : Ghosts KeySet
-meaning = record { usable = keys }
+-- What the keys mean that a block is given: those of a set that are permitted.
+abbrev pub meaning : Ghosts PermittedKeys
+meaning = record { usable = keys_permitted }
 
 -- The verifier, of header buckets of at most so many bytes, nested at most so deep; none where the block isn't opened.
 abbrev pub Content : ℕ → ℕ → Type 0
-Content room nesting = Option (Verifier room nesting KeySet meaning)
+Content room nesting = Option (Verifier room nesting PermittedKeys meaning)
 
 -- It has taken these bytes of a message, the payload's among them (or apart from them, where it is detached), and its getters give what
 -- their reading gives. A block that isn't opened has taken none.
@@ -84,7 +84,7 @@ abbrev pub wants_any : {H D : ℕ} → Content H D → Bool
 wants_any None = false
 wants_any (Some v) = is_open (status_in v)
 
-abbrev pub is_decidable : {H D : ℕ} → Verifier H D KeySet meaning → Bool
+abbrev pub is_decidable : {H D : ℕ} → Verifier H D PermittedKeys meaning → Bool
 is_decidable v = is_complete (status_in v) && not (is_inspecting v)
 
 abbrev pub has_verdict : {H D : ℕ} → Content H D → Bool

@@ -170,7 +170,7 @@ fn take<'k, const H: usize, const D: usize, K: Keys<'k>>(
 }
 
 /// The condition that a key fails, in numbers.
-fn condition_of(key: &Key<'_>, query: &Query<'_>, permission: &Permission<'_>) -> u8
+fn condition_of(key: &Key<'_>, query: &Query<'_>, permission: &Permission) -> u8
     ensures { result
         ≡ spec.condition_of (question query.now) (permission_value permission.now)
         (key_value key.now) }
@@ -182,7 +182,7 @@ fn condition_of(key: &Key<'_>, query: &Query<'_>, permission: &Permission<'_>) -
 }
 
 /// Whether the key that an item is fits.
-fn fit_of(item: &ItemRef<'_>, query: &Query<'_>, permission: &Permission<'_>) -> CoseKeyFit
+fn fit_of(item: &ItemRef<'_>, query: &Query<'_>, permission: &Permission) -> CoseKeyFit
     ensures { result
         ≡ spec.fit_at (question query.now) (permission_value permission.now)
         (Some (placed item.now)) }
@@ -202,7 +202,7 @@ fn fit_of(item: &ItemRef<'_>, query: &Query<'_>, permission: &Permission<'_>) ->
 fn first_among<'k>(
     array: &ItemRef<'k>,
     query: &Query<'_>,
-    permission: &Permission<'_>,
+    permission: &Permission,
 ) -> Option<ItemRef<'k>>
     ensures { option_map placed result
         ≡ spec.first_fitting (question query.now) (permission_value permission.now)
@@ -217,11 +217,7 @@ fn first_among<'k>(
 }
 
 /// The first item of a key set whose key is permitted and fits.
-fn first_in<'k>(
-    keys: &'k [u8],
-    query: &Query<'_>,
-    permission: &Permission<'_>,
-) -> Option<ItemRef<'k>>
+fn first_in<'k>(keys: &'k [u8], query: &Query<'_>, permission: &Permission) -> Option<ItemRef<'k>>
     ensures { option_map placed result
         ≡ spec.fitting_in (question query.now) (permission_value permission.now)
         (whole 8 (record { bytes = keys.entry.now; place = 0 })) }
@@ -273,7 +269,7 @@ fn item_in(keys: &[u8], place: u64) -> Option<ItemRef<'_>>
 }
 
 /// Whether the key that the item at a place of a key set is fits.
-fn fit_in(keys: &[u8], place: u64, query: &Query<'_>, permission: &Permission<'_>) -> CoseKeyFit
+fn fit_in(keys: &[u8], place: u64, query: &Query<'_>, permission: &Permission) -> CoseKeyFit
     ensures { result
         ≡ spec.fit_at (question query.now) (permission_value permission.now)
         (item_at keys.now place) }

@@ -29,9 +29,9 @@ const NESTING: usize = 8;
 
 /// Which keys a caller permits.
 #[derive(Clone, Copy)]
-pub(crate) struct Permission<'k> {
+pub(crate) struct Permission {
     /// The numbers of the algorithms one of which a key has to name; zeros name none, and with zeros alone none is stated.
-    pub(crate) algorithms: &'k [i32],
+    pub(crate) algorithms: [i32; 16],
     /// The least number of bytes of a secret.
     pub(crate) least_secret: u64,
     /// Whether, with no algorithms stated, keys for HMAC 256/64 are permitted.
@@ -69,11 +69,11 @@ fn is_one_of(algorithms: &[i32], own: Option<Label<'_>>) -> bool
     }
 }
 
-impl Permission<'_> {
+impl Permission {
     /// Whether a key that names this algorithm is permitted, where none is stated.
     fn permits_named(&self, own: Label<'_>) -> bool
         ensures { result
-            ≡ spec.permits_named (permission_value self.entry.now) (label_value own.entry) }
+            ≡ spec.permits_named (permission_value self.now) (label_value own.entry) }
     {
         match own {
             Label::Int(number) => number != SHORT_MAC || self.short_mac,
@@ -84,7 +84,7 @@ impl Permission<'_> {
     /// Whether a key that names no algorithm is permitted, where none is stated. A secret could be used with HMAC 256/64 too.
     fn permits_unnamed(&self, material: &Material<'_>) -> bool
         ensures { result
-            ≡ spec.permits_unnamed (permission_value self.entry.now) (material_value material.now) }
+            ≡ spec.permits_unnamed (permission_value self.now) (material_value material.now) }
     {
         match material {
             Material::Symmetric(_) => self.without_alg && self.short_mac,
@@ -95,10 +95,10 @@ impl Permission<'_> {
     /// Whether the algorithm of a key is permitted.
     fn permits_algorithm(&self, key: &Key<'_>) -> bool
         ensures { result
-            ≡ spec.permits_algorithm (permission_value self.entry.now) (key_value key.now) }
+            ≡ spec.permits_algorithm (permission_value self.now) (key_value key.now) }
     {
-        if is_stated(self.algorithms) {
-            return is_one_of(self.algorithms, key.alg);
+        if is_stated(&self.algorithms) {
+            return is_one_of(&self.algorithms, key.alg);
         }
         match key.alg {
             Some(own) => self.permits_named(own),
@@ -109,7 +109,7 @@ impl Permission<'_> {
     /// Whether a secret is long enough. Points have the length of their curve.
     fn permits_material(&self, material: &Material<'_>) -> bool
         ensures { result
-            ≡ allows_material self.entry.now.least_secret (material_value material.now) }
+            ≡ allows_material self.now.least_secret (material_value material.now) }
     {
         match material {
             Material::Symmetric(secret) => self.least_secret <= secret.len() as u64,
@@ -119,9 +119,21 @@ impl Permission<'_> {
 
     /// Whether a key is permitted.
     pub(crate) fn permits(&self, key: &Key<'_>) -> bool
-        ensures { result ≡ spec.permits (permission_value self.entry.now) (key_value key.now) }
+        ensures { result ≡ spec.permits (permission_value self.now) (key_value key.now) }
     {
         self.permits_algorithm(key) && self.permits_material(&key.material)
+    }
+}
+
+/// What permits each key.
+fn everything() -> Permission
+    ensures { (key : KeyValue) → spec.permits (permission_value result) key ≡ true }
+{
+    Permission {
+        algorithms: [0; 16],
+        least_secret: 0,
+        short_mac: true,
+        without_alg: true,
     }
 }
 
@@ -129,7 +141,7 @@ impl Permission<'_> {
 #[derive(Clone, Copy)]
 pub(crate) struct PermittedKeys<'k> {
     set: ItemRef<'k>,
-    permission: Permission<'k>,
+    permission: Permission,
 }
 
 /// The items with a permitted key that fits, of those that were looked at so far. (An item is small, and a key is large: the one that is
@@ -147,7 +159,7 @@ pub(crate) enum FittingItems<'k> {
 /// Whether an item is a usable key that is permitted and fits. It is never inlined: no key is on the stack when the one that fits is read
 /// again.
 #[inline(never)]
-pub(crate) fn is_fitting(item: &ItemRef<'_>, query: &Query<'_>, permission: &Permission<'_>) -> bool
+pub(crate) fn is_fitting(item: &ItemRef<'_>, query: &Query<'_>, permission: &Permission) -> bool
     ensures { result
         ≡ spec.is_fitting (question query.now) (permission_value permission.now)
         (usable (placed item.now)) }
@@ -210,7 +222,7 @@ impl<'k> FittingItems<'k> {
     }
 
     /// With one more item, if its key is permitted and fits.
-    fn meet(&mut self, item: ItemRef<'k>, query: &Query, permission: &Permission<'_>)
+    fn meet(&mut self, item: ItemRef<'k>, query: &Query, permission: &Permission)
         ensures { (before : List KeyValue)
             → Among (question query.now) (permission_value permission.now) before self.old
             → Among (question query.now) (permission_value permission.now)
@@ -229,14 +241,21 @@ impl<'k> PermittedKeys<'k> {
     /// Reads a key set (RFC 9052 section 7). It is refused as `KeySet::read` refuses it.
     pub(crate) fn read(
         bytes: &'k [u8],
-        permission: Permission<'k>,
+        permission: Permission,
     ) -> Result<PermittedKeys<'k>, Refusal>
         ensures { seen_by keys_permitted result
-            ≡ permitted_in (permission_value permission.entry) (keys_of bytes.entry.now) }
+            ≡ permitted_in (permission_value permission) (keys_of bytes.entry.now) }
     {
         KeySet::read(bytes)?;
         let set = ItemRef::read(bytes, 0, NESTING)?;
         Ok(PermittedKeys { set, permission })
+    }
+
+    /// Reads a key set of which no key is left out.
+    pub(crate) fn read_all(bytes: &'k [u8]) -> Result<PermittedKeys<'k>, Refusal>
+        ensures { seen_by keys_permitted result ≡ keys_of bytes.entry.now }
+    {
+        PermittedKeys::read(bytes, everything())
     }
 
     /// The elements of an array whose keys are permitted and fit.

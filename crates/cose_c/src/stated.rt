@@ -1,10 +1,12 @@
 //! What a caller states of messages, in one struct.
 
 ghost use Rattle.std.specs.Prelude.{◌≡◌, ◌≤◌, IfOk, length, map, take};
+ghost use Rattle.cose_map.specs.KeySet.{keys_of};
 ghost use Rattle.cose_map.specs.Label.{number};
 ghost use Rattle.cose_map.specs.Label.View.{label_value};
 ghost use Rattle.cose_c.specs.PermittedView.{permission_value};
-ghost use Rattle.cose_c.specs.Stated.{count_before_zero, has_flag, limit_stated, permission_stated, setting_under_terms, settings_stated};
+ghost use Rattle.cose_c.specs.Stated.{count_before_zero, has_flag, limit_stated, permission_stated, setting_fed, setting_under_terms, settings_stated};
+ghost use Rattle.cose_c.specs.Terms.{setting_given};
 
 use crate::numbers::{BAD_ARGUMENT, CoseStatus, KEYS_REFUSED, plain_status, refused_status};
 use crate::permitted::{Permission, PermittedKeys};
@@ -86,34 +88,31 @@ fn payload_limit(stated: u64) -> u64
 }
 
 /// Which keys the terms permit.
-pub(crate) fn permission<'t>(terms: &'t CoseTerms<'t>) -> Permission<'t>
+pub(crate) fn permission(terms: &CoseTerms<'_>) -> Permission
     ensures { permission_value result ≡ permission_stated terms.entry.now }
 {
     Permission {
-        algorithms: terms.algorithms.as_slice(),
+        algorithms: terms.algorithms,
         least_secret: terms.least_secret,
         short_mac: has_flag(terms.permitted, SHORT_MAC),
         without_alg: has_flag(terms.permitted, WITHOUT_ALG),
     }
 }
 
-/// What a message is verified under, or why none is. The labels are those of all the terms' numbers.
+/// What a message is verified under, where these labels are understood, or why none is.
 #[inline(never)]
-#[tactic(auto, using(crate::proofs::Labels::labels_taken))]
-pub(crate) fn context<'t>(
-    terms: &'t CoseTerms<'t>,
-    labels: &'t [Label<'t>; 16],
+fn context_with<'t>(
+    terms: &CoseTerms<'t>,
+    understood: &'t [Label<'t>],
 ) -> Result<Context<'t, PermittedKeys<'t>>, CoseStatus>
     ensures setting { settings_stated result
-        ≡ setting_under_terms terms.entry.now
-        (take (count_before_zero terms.entry.now.understood) (map label_value labels.entry.now)) }
+        ≡ setting_under_terms terms.entry.now (map label_value understood.entry.now) }
     ensures external { IfOk result (λ context. length context.aad.now ≤ 65535) }
 {
     if terms.size != TERMS_SIZE || terms.permitted > SHORT_MAC + WITHOUT_ALG {
         return Err(plain_status(BAD_ARGUMENT));
     }
     let wanted = kinds_wanted(terms.aad, terms.kind)?;
-    let understood = &labels[..count_before_zero(&terms.understood)];
     let keys = match PermittedKeys::read(terms.keys, permission(terms)) {
         Ok(keys) => keys,
         Err(refusal) => return Err(refused_status(KEYS_REFUSED, refusal)),
@@ -125,5 +124,57 @@ pub(crate) fn context<'t>(
         cwt: true,
         understood,
         payload_limit: payload_limit(terms.payload_limit),
+    })
+}
+
+/// What a message is verified under, or why none is. The labels are those of all the terms' numbers.
+#[tactic(auto, using(crate::proofs::Labels::labels_taken))]
+pub(crate) fn context<'t>(
+    terms: &'t CoseTerms<'t>,
+    labels: &'t [Label<'t>; 16],
+) -> Result<Context<'t, PermittedKeys<'t>>, CoseStatus>
+    ensures setting { settings_stated result
+        ≡ setting_under_terms terms.entry.now
+        (take (count_before_zero terms.entry.now.understood) (map label_value labels.entry.now)) }
+    ensures external { IfOk result (λ context. length context.aad.now ≤ 65535) }
+{
+    context_with(terms, &labels[..count_before_zero(&terms.understood)])
+}
+
+/// What the messages that a block is fed are verified under, or why none is. A block keeps no labels: none may be stated.
+pub(crate) fn fed_context<'t>(
+    terms: &CoseTerms<'t>,
+) -> Result<Context<'t, PermittedKeys<'t>>, CoseStatus>
+    ensures setting { settings_stated result ≡ setting_fed terms.entry.now }
+    ensures external { IfOk result (λ context. length context.aad.now ≤ 65535) }
+{
+    if count_before_zero(&terms.understood) > 0 {
+        return Err(plain_status(BAD_ARGUMENT));
+    }
+    context_with(terms, &[])
+}
+
+/// What they are verified under where any key may be used, or why none is.
+pub(crate) fn fed_context_of<'k>(
+    keys: &'k [u8],
+    aad: &'k [u8],
+    wanted: u8,
+) -> Result<Context<'k, PermittedKeys<'k>>, CoseStatus>
+    ensures setting { settings_stated result
+        ≡ setting_given (keys_of keys.entry.now) aad.entry.now wanted }
+    ensures external { IfOk result (λ context. length context.aad.now ≤ 65535) }
+{
+    let wanted = kinds_wanted(aad, wanted)?;
+    let keys = match PermittedKeys::read_all(keys) {
+        Ok(keys) => keys,
+        Err(refusal) => return Err(refused_status(KEYS_REFUSED, refusal)),
+    };
+    Ok(Context {
+        keys,
+        aad,
+        wanted,
+        cwt: true,
+        understood: &[],
+        payload_limit: PAYLOAD,
     })
 }

@@ -1,7 +1,6 @@
 //! A verifier in a block, which is fed: for blocks of either size. A block that isn't opened answers [`CLOSED`](crate::numbers::CLOSED).
 
-ghost use Rattle.std.specs.Prelude.{◌≡◌, ◌≤◌, ◌+◌, ◌*◌, ℕ, true, false, List, [], ◌++◌, Some, Ok, length, min, take};
-ghost use Rattle.cose_map.specs.KeySet.{keys_of};
+ghost use Rattle.std.specs.Prelude.{◌≡◌, ◌≤◌, IfOk, ◌+◌, ◌*◌, ℕ, true, false, List, [], ◌++◌, Some, Ok, length, min, take};
 ghost use Rattle.cose_msg.specs.declared.verdict.Verdict.{Verdict};
 ghost use Rattle.cose_msg.specs.Answer.{decided};
 ghost use Rattle.cose_msg.specs.Feed.{Uses};
@@ -12,8 +11,8 @@ ghost use Rattle.cose_msg.specs.Task.{asks, Task, given_to, rules_of, to_verify}
 ghost use Rattle.cose_c.specs.Deciding.{deciding};
 ghost use Rattle.cose_c.specs.Input.{GivesAll, has_point};
 ghost use Rattle.cose_c.specs.Numbers.{always_authentic, no_message, verdict_numbers};
+ghost use Rattle.cose_c.specs.Stated.{settings_stated};
 ghost use Rattle.cose_c.specs.Stream.{HasRead, IsAnew, IsOpened, Keeps, answer_kept_by, block_status, detached_given, following, has_verdict, held_by, is_decidable, nothing_fed, opening_status, payload_fed, payload_wanted_by, reading_of, says_good, signed_by, status_after, status_numbers, taken_by, task_by, wanted_by, wants_any, wants_more};
-ghost use Rattle.cose_c.specs.Terms.{setting_given};
 
 mod large;
 mod small;
@@ -24,9 +23,9 @@ use crate::numbers::{
     AUTHENTIC, CLOSED, COMPLETE, CoseStatus, CoseVerdict, MORE, PAYLOAD_NEXT, REFUSED, STOPPED,
     accepted, no_message, plain_status, refused_status,
 };
-use crate::terms::context;
+use crate::permitted::PermittedKeys;
 use cose_msg::laws::settled_stays;
-use cose_msg::{Fed, Status, Verdict, Verifier};
+use cose_msg::{Context, Fed, Status, Verdict, Verifier};
 
 /// What was used of a piece.
 #[repr(C)]
@@ -95,20 +94,17 @@ pub(crate) fn following(message: u64) -> u64
 
 /// Gives a block its verifier. Where that is refused, the block isn't opened, whatever it was before.
 pub(crate) fn open<'k, const H: usize, const D: usize>(
-    content: &mut Option<Verifier<'k, H, D>>,
-    keys: &'k [u8],
-    aad: &'k [u8],
-    wanted: u8,
+    content: &mut Option<Verifier<'k, H, D, PermittedKeys<'k>>>,
+    context: Result<Context<'k, PermittedKeys<'k>>, CoseStatus>,
 ) -> CoseStatus
     requires some_room { 16 ≤ H }
     requires limit { H ≤ 65535 }
     requires nesting { D ≤ 32 }
-    ensures status { result
-        ≡ opening_status (setting_given (keys_of keys.entry.now) aad.entry.now wanted) }
-    ensures opened { IsOpened (setting_given (keys_of keys.entry.now) aad.entry.now wanted)
-        content.new }
+    requires external { IfOk context (λ given. length given.aad.now ≤ 65535) }
+    ensures status { result ≡ opening_status (settings_stated context.entry) }
+    ensures opened { IsOpened (settings_stated context.entry) content.new }
 {
-    match context(keys, aad, wanted) {
+    match context {
         Ok(context) => {
             *content = Some(Verifier::new(context));
             plain_status(MORE)
@@ -122,23 +118,19 @@ pub(crate) fn open<'k, const H: usize, const D: usize>(
 
 /// The same for messages whose payload is detached, and has so many bytes.
 pub(crate) fn open_detached<'k, const H: usize, const D: usize>(
-    content: &mut Option<Verifier<'k, H, D>>,
-    keys: &'k [u8],
-    aad: &'k [u8],
-    wanted: u8,
+    content: &mut Option<Verifier<'k, H, D, PermittedKeys<'k>>>,
+    context: Result<Context<'k, PermittedKeys<'k>>, CoseStatus>,
     payload_length: u64,
 ) -> CoseStatus
     requires some_room { 16 ≤ H }
     requires limit { H ≤ 65535 }
     requires nesting { D ≤ 32 }
-    ensures status { result
-        ≡ opening_status (setting_given (keys_of keys.entry.now) aad.entry.now wanted) }
-    ensures opened { IsOpened
-        (detached_given payload_length
-        (setting_given (keys_of keys.entry.now) aad.entry.now wanted))
+    requires external { IfOk context (λ given. length given.aad.now ≤ 65535) }
+    ensures status { result ≡ opening_status (settings_stated context.entry) }
+    ensures opened { IsOpened (detached_given payload_length (settings_stated context.entry))
         content.new }
 {
-    match context(keys, aad, wanted) {
+    match context {
         Ok(context) => {
             *content = Some(Verifier::detached(context, payload_length));
             plain_status(MORE)
@@ -152,7 +144,7 @@ pub(crate) fn open_detached<'k, const H: usize, const D: usize>(
 
 /// Takes the next bytes of the message.
 pub(crate) fn feed<'k, const H: usize, const D: usize>(
-    content: &mut Option<Verifier<'k, H, D>>,
+    content: &mut Option<Verifier<'k, H, D, PermittedKeys<'k>>>,
     piece: &[u8],
 ) -> CoseFed
     ensures uses { (task : Task) (taken payload : List ℕ) → HasRead task taken payload content.old
@@ -179,7 +171,7 @@ pub(crate) fn feed<'k, const H: usize, const D: usize>(
 
 /// How many bytes of the message are to come for certain.
 pub(crate) fn wanted<'k, const H: usize, const D: usize>(
-    content: &Option<Verifier<'k, H, D>>,
+    content: &Option<Verifier<'k, H, D, PermittedKeys<'k>>>,
 ) -> u64
     ensures value { result ≡ wanted_by content.now }
     ensures reads { (task : Task) (taken payload : List ℕ) → HasRead task taken payload content.now
@@ -193,7 +185,7 @@ pub(crate) fn wanted<'k, const H: usize, const D: usize>(
 
 /// How many bytes of a detached payload are to come.
 pub(crate) fn payload_wanted<'k, const H: usize, const D: usize>(
-    content: &Option<Verifier<'k, H, D>>,
+    content: &Option<Verifier<'k, H, D, PermittedKeys<'k>>>,
 ) -> u64
     ensures value { result ≡ payload_wanted_by content.now }
     ensures reads { (task : Task) (taken payload : List ℕ) → HasRead task taken payload content.now
@@ -207,7 +199,7 @@ pub(crate) fn payload_wanted<'k, const H: usize, const D: usize>(
 
 /// Takes the next bytes of a detached payload, as many as are wanted, and returns how many that was.
 pub(crate) fn feed_payload<'k, const H: usize, const D: usize>(
-    content: &mut Option<Verifier<'k, H, D>>,
+    content: &mut Option<Verifier<'k, H, D, PermittedKeys<'k>>>,
     piece: &[u8],
 ) -> u64
     ensures uses { result ≡ min (length piece.now) (payload_wanted_by content.old) }
@@ -225,7 +217,7 @@ pub(crate) fn feed_payload<'k, const H: usize, const D: usize>(
 
 /// Says that no byte follows.
 pub(crate) fn end<'k, const H: usize, const D: usize>(
-    content: &mut Option<Verifier<'k, H, D>>,
+    content: &mut Option<Verifier<'k, H, D, PermittedKeys<'k>>>,
 ) -> CoseStatus
     ensures reads { (task : Task) (taken payload : List ℕ) → HasRead task taken payload content.old
         → result ≡ status_numbers (status_of_answer (reading_of H D task taken).answer) }
@@ -247,7 +239,7 @@ pub(crate) fn end<'k, const H: usize, const D: usize>(
 
 /// Gives what the signature of a message is verified with, and returns whether there is one.
 pub(crate) fn sign_input<'k, const H: usize, const D: usize>(
-    content: &Option<Verifier<'k, H, D>>,
+    content: &Option<Verifier<'k, H, D, PermittedKeys<'k>>>,
     input: &mut CoseSignInput,
 ) -> bool
     ensures value { result ≡ has_point (signed_by content.now) }
@@ -272,7 +264,9 @@ pub(crate) fn says_good(signature_is_good: i32) -> bool
 }
 
 /// Whether a message is complete, and isn't only inspected.
-fn is_decidable<'k, const H: usize, const D: usize>(verifier: &Verifier<'k, H, D>) -> bool
+fn is_decidable<'k, const H: usize, const D: usize>(
+    verifier: &Verifier<'k, H, D, PermittedKeys<'k>>,
+) -> bool
     ensures { result ≡ is_decidable verifier.now }
 {
     verifier.is_complete() && !verifier.is_inspecting()
@@ -280,7 +274,7 @@ fn is_decidable<'k, const H: usize, const D: usize>(verifier: &Verifier<'k, H, D
 
 /// The verdict on a message that is complete, whose signature, if it has one, is good or isn't.
 pub(crate) fn verdict<'k, const H: usize, const D: usize>(
-    content: &mut Option<Verifier<'k, H, D>>,
+    content: &mut Option<Verifier<'k, H, D, PermittedKeys<'k>>>,
     is_good: bool,
 ) -> CoseVerdict
     ensures verdict { (setting : Setting) (taken payload : List ℕ)
@@ -322,7 +316,9 @@ pub(crate) fn verdict<'k, const H: usize, const D: usize>(
 }
 
 /// Begins the next message, under the same keys.
-pub(crate) fn reset<'k, const H: usize, const D: usize>(content: &mut Option<Verifier<'k, H, D>>)
+pub(crate) fn reset<'k, const H: usize, const D: usize>(
+    content: &mut Option<Verifier<'k, H, D, PermittedKeys<'k>>>,
+)
     ensures anew { IsAnew (task_by content.old) content.new }
     ensures reads { (task : Task) (taken payload : List ℕ) → HasRead task taken payload content.old
         → HasRead (given_to [] task) [] [] content.new }
@@ -333,7 +329,9 @@ pub(crate) fn reset<'k, const H: usize, const D: usize>(content: &mut Option<Ver
 }
 
 /// The number of bytes of the message that were taken.
-pub(crate) fn taken<'k, const H: usize, const D: usize>(content: &Option<Verifier<'k, H, D>>) -> u64
+pub(crate) fn taken<'k, const H: usize, const D: usize>(
+    content: &Option<Verifier<'k, H, D, PermittedKeys<'k>>>,
+) -> u64
     ensures value { result ≡ taken_by content.now }
     ensures reads { (task : Task) (taken payload : List ℕ) → HasRead task taken payload content.now
         → result ≡ length taken }
@@ -345,7 +343,9 @@ pub(crate) fn taken<'k, const H: usize, const D: usize>(content: &Option<Verifie
 }
 
 /// How many bytes of the message are held, and 256 for the running hash.
-pub(crate) fn held<'k, const H: usize, const D: usize>(content: &Option<Verifier<'k, H, D>>) -> u64
+pub(crate) fn held<'k, const H: usize, const D: usize>(
+    content: &Option<Verifier<'k, H, D, PermittedKeys<'k>>>,
+) -> u64
     ensures value { result ≡ held_by content.now }
     ensures limit { result ≤ 2 * H + 512 }
 {

@@ -218,6 +218,8 @@ edge_make_sign1_digest &cose_signer room &cose_made
 edge_make_sign1_end &cose_signer bytes room &cose_made
 edge_large_open &cose_large_verifier bytes bytes u8 &cose_status
 edge_large_open_detached &cose_large_verifier bytes bytes u8 u64 &cose_status
+edge_large_open_under &cose_large_verifier &cose_terms &cose_status
+edge_large_open_under_detached &cose_large_verifier &cose_terms u64 &cose_status
 edge_large_feed &cose_large_verifier bytes &cose_fed
 large_wanted &cose_large_verifier -> u64
 large_payload_wanted &cose_large_verifier -> u64
@@ -234,6 +236,8 @@ edge_large_header &cose_large_verifier u32 i64 room &cose_item
 edge_large_header_named &cose_large_verifier u32 bytes room &cose_item
 edge_open &cose_verifier bytes bytes u8 &cose_status
 edge_open_detached &cose_verifier bytes bytes u8 u64 &cose_status
+edge_open_under &cose_verifier &cose_terms &cose_status
+edge_open_under_detached &cose_verifier &cose_terms u64 &cose_status
 edge_feed &cose_verifier bytes &cose_fed
 wanted &cose_verifier -> u64
 payload_wanted &cose_verifier -> u64

@@ -15,6 +15,7 @@ ghost use Rattle.cose_c.specs.Input.{GivesAll, has_point};
 ghost use Rattle.cose_c.specs.Item.{item_numbers};
 ghost use Rattle.cose_c.specs.Numbers.{always_authentic, no_message, plain_status, verdict_numbers};
 ghost use Rattle.cose_c.specs.Parameter.{GivesItem, bucket_in, parameter_by, parameter_in, parameter_named_by};
+ghost use Rattle.cose_c.specs.Stated.{setting_fed};
 ghost use Rattle.cose_c.specs.Stream.{HasRead, IsAnew, IsOpened, Keeps, answer_kept_by, block_status, detached_given, following, has_verdict, held_by, nothing_fed, opening_status, payload_fed, payload_wanted_by, reading_of, says_good, signed_by, status_after, status_numbers, taken_by, task_by, wanted_by, wants_any, wants_more};
 ghost use Rattle.cose_c.specs.Terms.{setting_given};
 
@@ -24,6 +25,7 @@ use crate::input::CoseSignInput;
 use crate::item::{CoseItem, no_item};
 use crate::numbers::{BAD_ARGUMENT, CoseStatus, CoseVerdict, no_message, plain_status};
 use crate::parameter::parameter_taken;
+use crate::stated::{CoseTerms, fed_context, fed_context_of};
 use crate::stream;
 use crate::stream::CoseFed;
 use cose_map::Label;
@@ -47,7 +49,7 @@ pub extern "C" fn cose_edge_large_open(
 {
     let held = verifier.lend();
     held.message = stream::following(held.message);
-    *status = stream::open(&mut held.content, keys, aad, wanted);
+    *status = stream::open(&mut held.content, fed_context_of(keys, aad, wanted));
 }
 
 /// The same for messages whose payload is detached (RFC 9052 sections 4.2 and 6.2), and has so many bytes.
@@ -68,7 +70,45 @@ pub extern "C" fn cose_edge_large_open_detached(
 {
     let held = verifier.lend();
     held.message = stream::following(held.message);
-    *status = stream::open_detached(&mut held.content, keys, aad, wanted, payload_length);
+    let context = fed_context_of(keys, aad, wanted);
+    *status = stream::open_detached(&mut held.content, context, payload_length);
+}
+
+/// Opens a block as [`cose_edge_large_open`] does, under a struct of terms: no key is used that they don't permit. A block keeps no labels:
+/// where the terms state labels that are understood, the status is `BAD_ARGUMENT`, and the block isn't opened.
+///
+/// The keys and the external data stay as they are until the block is opened again, or isn't used any more; the struct is copied.
+#[unsafe(no_mangle)]
+pub extern "C" fn cose_edge_large_open_under(
+    verifier: &mut CoseLargeVerifier,
+    terms: &CoseTerms<'static>,
+    status: &mut CoseStatus,
+)
+    ensures status { status.new ≡ opening_status (setting_fed terms.now) }
+    ensures opened { IsOpened (setting_fed terms.now) verifier.new.value.content }
+    ensures next { verifier.new.value.message ≡ following verifier.old.value.message }
+{
+    let held = verifier.lend();
+    held.message = stream::following(held.message);
+    *status = stream::open(&mut held.content, fed_context(terms));
+}
+
+/// The same for messages whose payload is detached (RFC 9052 sections 4.2 and 6.2), and has so many bytes.
+#[unsafe(no_mangle)]
+pub extern "C" fn cose_edge_large_open_under_detached(
+    verifier: &mut CoseLargeVerifier,
+    terms: &CoseTerms<'static>,
+    payload_length: u64,
+    status: &mut CoseStatus,
+)
+    ensures status { status.new ≡ opening_status (setting_fed terms.now) }
+    ensures opened { IsOpened (detached_given payload_length (setting_fed terms.now))
+        verifier.new.value.content }
+    ensures next { verifier.new.value.message ≡ following verifier.old.value.message }
+{
+    let held = verifier.lend();
+    held.message = stream::following(held.message);
+    *status = stream::open_detached(&mut held.content, fed_context(terms), payload_length);
 }
 
 /// Takes the next bytes of the message: the fewest that settle it, or the whole piece. It says how many it used, and which of them are of
