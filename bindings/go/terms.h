@@ -63,6 +63,24 @@ static inline struct cose_requirements sized_requirements_of(struct sized_requir
     return given;
 }
 
+static inline struct cose_status sized_open_under(bool large, uint8_t *block, struct sized_terms terms, struct sized_bytes keys,
+    struct sized_bytes aad, bool is_detached, uint64_t payload_length)
+{
+    struct cose_status status = {0};
+    struct cose_verifier verifier = {block};
+    struct cose_large_verifier large_verifier = {block};
+    struct cose_terms given = sized_terms_of(terms, keys, aad);
+    if (large && is_detached)
+        cose_large_open_under_detached(&large_verifier, &given, payload_length, &status);
+    else if (large)
+        cose_large_open_under(&large_verifier, &given, &status);
+    else if (is_detached)
+        cose_open_under_detached(&verifier, &given, payload_length, &status);
+    else
+        cose_open_under(&verifier, &given, &status);
+    return status;
+}
+
 static inline struct sized_answer sized_authenticate(bool large, struct sized_terms terms, struct sized_bytes keys, struct sized_bytes aad,
     struct sized_bytes message)
 {

@@ -75,7 +75,46 @@ func NewDetachedVerifier(keys []byte, payloadLength uint64, options *Options) (*
 	return newVerifier(keys, options, false, true, payloadLength)
 }
 
+// NewVerifierUnder is a verifier of messages that have their payload, under terms, as Authenticate takes them: their defaults are safe. A
+// verifier keeps no labels: terms with Understood are ErrBadArgument.
+func NewVerifierUnder(keys []byte, terms *Terms) (*Verifier, error) {
+	return newVerifierUnder(keys, terms, false, 0)
+}
+
+// NewDetachedVerifierUnder is the same of messages whose payload is detached, and has so many bytes.
+func NewDetachedVerifierUnder(keys []byte, payloadLength uint64, terms *Terms) (*Verifier, error) {
+	return newVerifierUnder(keys, terms, true, payloadLength)
+}
+
+func newVerifierUnder(keys []byte, terms *Terms, isDetached bool, payloadLength uint64) (*Verifier, error) {
+	t := terms.orDefault()
+	given, err := t.given()
+	if err != nil {
+		return nil, err
+	}
+	return openVerifier(keys, &t.Options, isDetached, func(v *Verifier, data, external C.struct_sized_bytes) C.struct_cose_status {
+		return C.sized_open_under(v.large, v.block.at, given, data, external, C.bool(isDetached), C.uint64_t(payloadLength))
+	})
+}
+
 func newVerifier(keys []byte, options *Options, isElsewhere, isDetached bool, payloadLength uint64) (*Verifier, error) {
+	return openVerifier(keys, options, isDetached, func(v *Verifier, data, external C.struct_sized_bytes) C.struct_cose_status {
+		wanted, length := C.uint32_t(v.options.Wanted), C.uint64_t(payloadLength)
+		switch {
+		case isElsewhere && isDetached:
+			return C.sized_open_elsewhere_detached(v.large, v.block.at, data, external, wanted, length)
+		case isElsewhere:
+			return C.sized_open_elsewhere(v.large, v.block.at, data, external, wanted)
+		case isDetached:
+			return C.sized_open_detached(v.large, v.block.at, data, external, wanted, length)
+		}
+		return C.sized_open(v.large, v.block.at, data, external, wanted)
+	})
+}
+
+// openVerifier makes the memory of a verifier, and opens it.
+func openVerifier(keys []byte, options *Options, isDetached bool,
+	open func(v *Verifier, keys, aad C.struct_sized_bytes) C.struct_cose_status) (*Verifier, error) {
 	v := &Verifier{options: options.orDefault(), isDetached: isDetached}
 	v.large = C.bool(v.options.Large)
 	runtime.SetFinalizer(v, func(it *Verifier) { it.block.free() })
@@ -87,18 +126,7 @@ func newVerifier(keys []byte, options *Options, isElsewhere, isDetached bool, pa
 		return nil, errNoMemory
 	}
 	C.sized_begin(v.large, v.block.at)
-	wanted := C.uint32_t(v.options.Wanted)
-	var status C.struct_cose_status
-	switch {
-	case isElsewhere && isDetached:
-		status = C.sized_open_elsewhere_detached(v.large, v.block.at, data, external, wanted, C.uint64_t(payloadLength))
-	case isElsewhere:
-		status = C.sized_open_elsewhere(v.large, v.block.at, data, external, wanted)
-	case isDetached:
-		status = C.sized_open_detached(v.large, v.block.at, data, external, wanted, C.uint64_t(payloadLength))
-	default:
-		status = C.sized_open(v.large, v.block.at, data, external, wanted)
-	}
+	status := open(v, data, external)
 	// a refusal that is known now, of the length, is the message's: Feed and Verdict return it
 	if status.status != C.COSE_MORE && status.status != C.COSE_REFUSED {
 		v.block.free()

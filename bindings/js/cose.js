@@ -764,6 +764,16 @@ class Verifier extends Block {
     }
 
     /**
+     * What is stated of the next messages, whose defaults are safe, as `authenticate` takes it, but for `understood`: a block keeps no
+     * labels.
+     * @param {Uint8Array} keys
+     * @param {Terms & {payloadLength?: number | bigint}} terms
+     */
+    openUnder(keys, terms = {}) {
+        return STATED.open(this, keys, terms);
+    }
+
+    /**
      * The next bytes of the message: the status, how many were used, and those of them that are of the payload.
      * @param {Uint8Array} piece
      */

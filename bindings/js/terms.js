@@ -126,6 +126,29 @@ class Stated {
     }
 
     /**
+     * Opens the block of a verifier under terms.
+     * @param {Verifier} verifier
+     * @param {Uint8Array} keys
+     * @param {Terms & {payloadLength?: number | bigint}} options
+     */
+    static open(verifier, keys, { payloadLength, ...terms }) {
+        const cose = verifier.cose;
+        verifier.asked = undefined;
+        const old = verifier.kept.splice(0);
+        const status = cose.scoped((scope) => {
+            const at = scope.room(cose.layout("cose_status").size);
+            // the block leads to the keys and to the external data until it is opened again
+            const kept = { ...scope, room: scope.room.bind(scope), put: verifier.keep.bind(verifier) };
+            const given = Stated.terms(cose, /** @type {Scope} */ (kept), keys, terms);
+            if (payloadLength === undefined) verifier.call("open_under", true)(verifier.handle, given, at);
+            else verifier.call("open_under_detached", true)(verifier.handle, given, BigInt(payloadLength), at);
+            return cose.read(at, "cose_status");
+        });
+        for (const [at, length] of old) cose.rooms.give(at, length);
+        return status;
+    }
+
+    /**
      * Puts the requirements where the module reads them.
      * @param {Cose} cose
      * @param {Scope} scope

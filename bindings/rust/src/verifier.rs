@@ -2,7 +2,7 @@
 
 use crate::block::Memory;
 use crate::error::{number, part};
-use crate::{raw, Block, Bucket, Error, Item, Kind, Label, Options, SignInput, Size, Small};
+use crate::{raw, Block, Bucket, Error, Item, Kind, Label, Options, SignInput, Size, Small, Terms};
 
 /// Memory for a [`Verifier`].
 pub type VerifierBlock = Block<4_096>;
@@ -152,6 +152,15 @@ impl<'k> Verifier<'k> {
         Self::open(block, keys, options)
     }
 
+    /// A verifier under terms, in the size [`Small`]: [`open_under`](Self::open_under).
+    ///
+    /// # Errors
+    ///
+    /// As [`open_under`](Self::open_under).
+    pub fn under(block: &'k mut VerifierBlock, terms: &Terms<'k>) -> Result<Self, Error> {
+        Self::open_under(block, terms)
+    }
+
     /// A verifier of messages that have nil for their payload, which is detached and has so many bytes. Where [`feed`](Self::feed)
     /// answers [`Status::PayloadNext`], they are passed to [`feed_payload`](Self::feed_payload), and then the rest of the message to
     /// `feed`.
@@ -240,6 +249,67 @@ impl<'k, S: Size> Verifier<'k, S> {
                 options.aad.as_ptr(),
                 options.aad.len(),
                 options.wanted as u8,
+                payload_length,
+                &mut status,
+            );
+        }
+        Status::of(&status).map(|_| verifier)
+    }
+
+    /// A verifier under [`Terms`], whose defaults are safe, as [`authenticate`](crate::authenticate) takes them.
+    ///
+    /// # Errors
+    ///
+    /// The key set is refused, the externally supplied data is too long, or the terms are out of their range: no label is understood in
+    /// addition to those of RFC 9052.
+    ///
+    /// ```
+    /// use cose::{Block, Reason, Terms, Verifier};
+    ///
+    /// let keys = b"\xa2\x01\x04\x20\x44Jefe"; // it names no algorithm
+    /// let terms = Terms { keys, without_alg: true, short_mac: true, ..Terms::default() };
+    /// let message = b"\xd1\x84\x43\xa1\x01\x05\xa0\x42hi\x58\x20\
+    ///     \x7d\x81\xe9\x64\xaa\xee\x5f\xbd\x8a\xdf\xb3\xf5\x33\x65\x7a\x9e\
+    ///     \xf9\xf7\x82\xf0\x4b\x91\x87\x7b\x60\x04\x27\x2a\x03\x52\xf9\x60";
+    /// let mut block = Block::new();
+    /// let mut verifier = Verifier::under(&mut block, &terms)?;
+    /// assert_eq!(verifier.feed(message)?.payload, b"hi");
+    /// assert!(verifier.verdict(|_| false).is_ok());
+    ///
+    /// let strict = Terms { keys, ..Terms::default() };
+    /// let mut block = Block::new();
+    /// let error = Verifier::under(&mut block, &strict)?.feed(message).unwrap_err();
+    /// assert_eq!(error.reason(), Some(Reason::NoKey));
+    /// # Ok::<(), cose::Error>(())
+    /// ```
+    pub fn open_under(block: &'k mut S::Block, terms: &Terms<'k>) -> Result<Self, Error> {
+        let raw = terms.raw()?;
+        let mut verifier = Self::begun(block)?;
+        let mut status = raw::Status::default();
+        // SAFETY: the block was begun; each pointer of the terms with its length is that of one slice, and what the block keeps of these
+        // slices stays as it is while `'k` lasts, so as long as the verifier.
+        unsafe { (S::FUNCTIONS.open_under)(&mut verifier.handle(), &raw, &mut status) };
+        Status::of(&status).map(|_| verifier)
+    }
+
+    /// The same of messages whose payload is detached and has so many bytes, as [`detached`](Verifier::detached) takes them.
+    ///
+    /// # Errors
+    ///
+    /// As [`open_under`](Self::open_under).
+    pub fn open_under_detached(
+        block: &'k mut S::Block,
+        terms: &Terms<'k>,
+        payload_length: u64,
+    ) -> Result<Self, Error> {
+        let raw = terms.raw()?;
+        let mut verifier = Self::begun(block)?;
+        let mut status = raw::Status::default();
+        // SAFETY: as in `open_under`.
+        unsafe {
+            (S::FUNCTIONS.open_under_detached)(
+                &mut verifier.handle(),
+                &raw,
                 payload_length,
                 &mut status,
             );

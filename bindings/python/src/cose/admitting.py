@@ -48,7 +48,7 @@ def _named(value: Optional[str], name: str) -> bytes:
     return b"" if value is None else text_of(value, name)
 
 
-class _Terms:
+class Terms:
     """What a caller states of messages, as the library has it."""
 
     def __init__(
@@ -86,10 +86,10 @@ def terms_of(
     least_secret: int,
     short_mac: bool,
     without_alg: bool,
-) -> _Terms:
+) -> Terms:
     """What a caller states of keys, for messages of one kind."""
     stated = (algorithms, least_secret, short_mac, without_alg)
-    return _Terms(keys, b"", kind, *stated, (), None)
+    return Terms(keys, b"", kind, *stated, (), None)
 
 
 def _requirements(
@@ -123,7 +123,7 @@ def _requirements(
 
 
 def _message(
-    terms: _Terms, data: bytes, content: Optional[bytes], ecdsa: Optional[Ecdsa], large: bool
+    terms: Terms, data: bytes, content: Optional[bytes], ecdsa: Optional[Ecdsa], large: bool
 ) -> Message:
     calls = _library.large if large else small
     verdict, sign_input = VerdictStruct(), SignInputStruct()
@@ -174,7 +174,7 @@ def authenticate(
     """
     data = bytes_of(message, "message")
     content = None if payload is None else bytes_of(payload, "payload")
-    terms = _Terms(
+    terms = Terms(
         keys,
         aad,
         wanted,
@@ -260,7 +260,7 @@ def admit(
     requirements = _requirements(
         now, leeway, issuer, subject, audience, present, max_lifetime, max_age, without_exp
     )
-    terms = _Terms(
+    terms = Terms(
         keys,
         aad,
         wanted,

@@ -93,6 +93,11 @@ class Elsewhere(Verifier):
                 return None
         return bytes(found.signature[: found.length])
 
+    @classmethod
+    def under(cls, *_arguments: Any, **_named: Any) -> NoReturn:
+        """Raises `TypeError`: a message that is authenticated elsewhere has no terms."""
+        raise TypeError("use cose.Verifier.under")
+
     def verdict(self) -> NoReturn:
         """Raises `TypeError`: there is a verdict only by what the caller states."""
         raise TypeError("use verdict_of_mac or verdict_of_answer")

@@ -5,7 +5,7 @@ from __future__ import annotations
 from ctypes import byref, create_string_buffer
 from dataclasses import dataclass
 from types import TracebackType
-from typing import Any, Optional, Type, Union
+from typing import Any, Iterable, Optional, Tuple, Type, Union
 
 from . import _calls, _library, cbor
 from ._answers import Ecdsa, fail, is_good
@@ -21,6 +21,7 @@ from ._library import (
     small,
 )
 from ._numbers import reader
+from .admitting import Terms
 from .keys import Keys, data_of
 
 _numbers_of = reader(FedStruct)
@@ -89,6 +90,38 @@ class Verifier:
         ecdsa: Optional[Ecdsa] = None,
         large: bool = False,
     ) -> None:
+        self._prepare(keys, aad, ecdsa, large)
+        self._open(wanted_of(wanted), payload_length)
+
+    @classmethod
+    def under(
+        cls,
+        keys: Keys,
+        *,
+        aad: Buffer = b"",
+        wanted: Optional[Kind] = None,
+        algorithms: Optional[Iterable[int]] = None,
+        least_secret: int = 0,
+        short_mac: bool = False,
+        without_alg: bool = False,
+        payload_limit: Optional[int] = None,
+        payload_length: Optional[int] = None,
+        ecdsa: Optional[Ecdsa] = None,
+        large: bool = False,
+    ) -> Verifier:
+        """A verifier under terms, whose defaults are safe: those of `cose.authenticate`.
+
+        No label is understood in addition to those of RFC 9052.
+        """
+        it = cls.__new__(cls)
+        it._prepare(keys, aad, ecdsa, large)
+        stated = (algorithms, least_secret, short_mac, without_alg, (), payload_limit)
+        terms = Terms(it._keys, it._aad, wanted, *stated)
+        it._begin(("edge_open_under", "edge_open_under_detached"), (byref(terms.struct),), payload_length)
+        return it
+
+    def _prepare(self, keys: Keys, aad: Buffer, ecdsa: Optional[Ecdsa], large: bool) -> None:
+        """The memory of the verifier, which isn't opened yet."""
         self._is_large, self._calls = large, _library.large if large else small
         self._ecdsa = ecdsa
         # the library reads both until the verifier is closed
@@ -96,16 +129,21 @@ class Verifier:
         size, align = self._calls.verifier_size(), self._calls.verifier_align()
         self._block = Block("verifier", size, align)
         self._calls.begin(self._block.at)
-        self._open(wanted_of(wanted), payload_length)
 
     def _open(self, wanted: int, payload_length: Optional[int]) -> None:
-        status = StatusStruct()
         given = (self._keys, len(self._keys), self._aad, len(self._aad), wanted)
+        self._begin(self._OPENING, given, payload_length)
+
+    def _begin(
+        self, names: Tuple[str, str], given: Tuple[Any, ...], payload_length: Optional[int]
+    ) -> None:
+        """Opens the block by one of two calls: for a payload in the message, or a detached one."""
+        status = StatusStruct()
         if payload_length is None:
-            self._call(self._OPENING[0], *given, byref(status))
+            self._call(names[0], *given, byref(status))
         else:
             length = number_of(payload_length, "payload_length", 0, 2**64 - 1)
-            self._call(self._OPENING[1], *given, length, byref(status))
+            self._call(names[1], *given, length, byref(status))
         # a refusal that is known now, of the length, is the message's: feed and verdict raise it
         if status.status not in (Status.MORE, Status.REFUSED):
             fail(status)
