@@ -109,8 +109,46 @@ func runTerms(g *group, r *row) error {
 		if err = differs("Authenticate and AdmitClaims", seen, wanted); err != nil {
 			return err
 		}
+		// a verifier keeps no labels, and uses no byte after the message
+		if len(terms.Understood) > 0 || r.Result.Reason == "Trailing" {
+			continue
+		}
+		for _, size := range []int{1, 7, 64} {
+			seen = inPiecesUnder(g, r.Token, terms, size)
+			if err = differs(fmt.Sprintf("NewVerifierUnder, pieces of %d", size), seen, wanted); err != nil {
+				return err
+			}
+		}
 	}
 	return nil
+}
+
+// inPiecesUnder is the answer for a token that is fed under terms, and for its claims.
+func inPiecesUnder(g *group, token []byte, terms *cose.Terms, size int) string {
+	v, err := cose.NewVerifierUnder(g.Keys, terms)
+	if err != nil {
+		return refusal(err)
+	}
+	defer v.Close()
+	var payload []byte
+	for at := 0; at < len(token); at += size {
+		end := at + size
+		if end > len(token) {
+			end = len(token)
+		}
+		fed, err := v.Feed(token[at:end])
+		if err != nil {
+			return refusal(err)
+		}
+		payload = append(payload, fed.Payload...)
+	}
+	if err = v.End(); err != nil {
+		return refusal(err)
+	}
+	if _, err = v.Verdict(); err != nil {
+		return refusal(err)
+	}
+	return required(cose.AdmitClaims(payload, g.requirements(), terms.Large))
 }
 
 // ---- the lines of SECURITY's checklist

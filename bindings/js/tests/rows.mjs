@@ -337,6 +337,24 @@ function runTerms(group, test) {
         const payload = token.subarray(verdict.payloadAt, verdict.payloadAt + verdict.payloadLength);
         const seen = verdict.status === STATUS.AUTHENTIC ? required(cose.admitClaims(payload, stated)) : refused(verdict);
         equal(seen, wanted, "authenticate and admitClaims");
+        if (test.result.reason === "Trailing" || stated.understood?.length) continue;
+        for (const size of [1, 7, 64]) equal(inPiecesUnder(keys, token, stated, size), wanted, `openUnder, pieces of ${size}`);
+    }
+}
+
+/** The answer for a token that is fed under terms, and for its claims. */
+function inPiecesUnder(keys, token, stated, size) {
+    const verifier = new Verifier(cose, { large: stated.large });
+    try {
+        const opened = verifier.openUnder(keys, stated);
+        if (opened.status !== STATUS.MORE) return refused(opened);
+        const payload = [];
+        for (const piece of cut(token, size)) payload.push(...verifier.feed(piece).payload);
+        verifier.end();
+        const verdict = verifier.verdict(false);
+        return verdict.status === STATUS.AUTHENTIC ? required(cose.admitClaims(new Uint8Array(payload), stated)) : refused(verdict);
+    } finally {
+        verifier.close();
     }
 }
 
