@@ -15,7 +15,9 @@ use crate::elsewhere::{CoseFrontPieces, octets_of};
 use crate::input::copy_all;
 use crate::numbers::{CoseStatus, REFUSED, SIGNED, refused_status};
 use crate::terms::{HEADER, NESTING, context};
-use cose_msg::{FrontPieces, FurtherAsk, FurtherVerified, Refusal, ask_further, ask_further_detached};
+use cose_msg::{
+    FrontPieces, FurtherAsk, FurtherVerified, Refusal, ask_further, ask_further_detached,
+};
 
 /// What an EdDSA signature is verified with, where the status is [`SIGNED`](crate::numbers::SIGNED).
 #[repr(C)]

@@ -155,4 +155,3 @@ input_value place input = record { key = key_value input.0; digest = contents in
 
 abbrev pub place_of : SignInput → ℕ
 place_of signed = signed.place
-
