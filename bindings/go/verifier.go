@@ -2,7 +2,7 @@
 
 package cose
 
-// #include "sized.h"
+// #include "terms.h"
 import "C"
 
 import "runtime"
