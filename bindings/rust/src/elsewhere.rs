@@ -355,7 +355,7 @@ impl<'k, S: Size> Elsewhere<'k, S> {
 }
 
 impl raw::FrontPieces {
-    const BLANK: Self = raw::FrontPieces {
+    pub(crate) const BLANK: Self = raw::FrontPieces {
         protected_length: 0,
         context_length: 0,
         protected_head_length: 0,
