@@ -149,6 +149,7 @@ fn the_example_of_rfc_9052() {
         let mut room = [0; cose::POINT_ROOM];
         let point = input.key().sec1(&mut room);
         assert_eq!((point[0], point.len(), input.digest().len()), (4, 65, 32));
+        assert_eq!(input.place(), 32);
         true
     });
     assert_eq!(payload, Some(b"This is the content.".as_slice()));

@@ -90,7 +90,7 @@ fn a_signature_decides() {
             verifier.feed(message).map(|fed| fed.status),
             Ok(Status::Complete)
         );
-        let verdict = verifier.verdict(|input| input.digest().len() == 32 && good);
+        let verdict = verifier.verdict(|input| input.place() == 32 && good);
         match verdict {
             Ok(found) => assert_eq!(
                 (good, found.kind, found.payload_length),
