@@ -108,8 +108,7 @@ async function verdictOn(cose, request, progress, answer) {
     if (status === STATUS.AUTHENTIC || !input) return { ...found, state: "authentic" };
     const isSignatureGood = await signatureHolds(request, input, answer.picture);
     if (isSignatureGood === true) return { ...found, isSignatureGood, state: "authentic" };
-    const place = answer.picture.parts.find((it) => it.group === "auth")?.from ?? 0;
-    return { ...found, isSignatureGood, state: "refused", refusal: { reason: BAD_AUTH, place } };
+    return { ...found, isSignatureGood, state: "refused", refusal: { reason: BAD_AUTH, place: input.place } };
 }
 
 /**
