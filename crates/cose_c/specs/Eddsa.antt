@@ -1,5 +1,5 @@
 -- What a caller gets of a message in memory whose signature it verifies by EdDSA (RFC 9053 section 2.2, RFC 9864 section 2.2).
-use Rattle.std.specs.Prelude.{◌≡◌, ℕ, ◌++◌, List, Option, Some, None, is_some, Result, Ok, Err, if◌then◌else◌}
+use Rattle.std.specs.Prelude.{◌≡◌, ℕ, pos, ◌++◌, List, Option, Some, None, is_some, Result, Ok, Err, if◌then◌else◌}
 use Rattle.std.specs.List.{concat}
 use Rattle.cose_head.specs.declared.reason.Reason.TheVariants.{Trailing}
 use Rattle.cose_head.specs.declared.refusal.Refusal.{Refusal}
@@ -42,7 +42,7 @@ status_in input = record { status = input.status; reason = input.reason; place =
 -- The key, the algorithm and the signature; and the pieces, joined, are with the payload after them the structure that is signed.
 pub record GivesAsked (aad : List ℕ) (asked : Asked) (pieces : CoseFrontPieces) (input : CoseEddsaInput) : Type 0 where
   pub alg : input.alg ≡ further_number asked.alg
-  pub crv : input.crv ≡ okp_curve_number asked.key.curve
+  pub crv : pos input.crv ≡ okp_curve_number asked.key.curve
   pub has_kid : input.has_kid ≡ (if is_some asked.key.kid then 1 else 0)
   pub kid : input.kid.now ≡ octets_of asked.key.kid
   pub x : input.x.now ≡ asked.key.x

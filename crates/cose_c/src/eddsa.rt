@@ -1,7 +1,8 @@
 //! A message in memory that is signed by EdDSA (RFC 9053 section 2.2, RFC 9864 section 2.2): the caller's library verifies the signature,
 //! over the structure that is signed.
 
-ghost use Rattle.std.specs.Prelude.{◌≡◌, ◌≤◌, IfOk, List, Some, ℕ, length};
+ghost use Rattle.std.specs.Prelude.{◌≡◌, ◌≤◌, IfOk, List, Some, pos, ℕ, length};
+ghost use Rattle.cose_head.specs.Further.{further_number, okp_curve_number};
 ghost use Rattle.cose_map.specs.KeySet.{keys_of};
 ghost use Rattle.cose_map.specs.KeySet.Okp.{okp_keys_of};
 ghost use Rattle.cose_msg.specs.Further.{Asked};
@@ -15,6 +16,7 @@ use crate::elsewhere::{CoseFrontPieces, octets_of};
 use crate::input::copy_all;
 use crate::numbers::{CoseStatus, REFUSED, SIGNED, refused_status};
 use crate::terms::{HEADER, NESTING, context};
+use cose_head::{FurtherAlg, OkpCurve};
 use cose_msg::{
     FrontPieces, FurtherAsk, FurtherVerified, Refusal, ask_further, ask_further_detached,
 };
@@ -46,6 +48,27 @@ pub struct CoseEddsaInput<'k> {
     pub payload: &'k [u8],
     /// The signature (RFC 8032 sections 5.1.6 and 5.2.6).
     pub signature: &'k [u8],
+}
+
+/// The number of a curve.
+fn number_of_curve(curve: OkpCurve) -> u8
+    ensures { pos result ≡ okp_curve_number curve }
+{
+    match curve {
+        OkpCurve::Ed25519 => 6,
+        OkpCurve::Ed448 => 7,
+    }
+}
+
+/// The number of an algorithm.
+fn number_of_alg(alg: FurtherAlg) -> i32
+    ensures { result ≡ further_number alg }
+{
+    match alg {
+        FurtherAlg::EdDsa => -8,
+        FurtherAlg::Ed25519 => -19,
+        FurtherAlg::Ed448 => -53,
+    }
 }
 
 /// The numbers and ranges of a call that asks nothing.
@@ -97,9 +120,9 @@ fn input_of<'k>(ask: &FurtherAsk<'k>, pieces: &mut CoseFrontPieces) -> CoseEddsa
         return CoseEddsaInput {
             status: SIGNED,
             reason: 0,
-            crv: ask.key.curve.number() as u8,
+            crv: number_of_curve(ask.key.curve),
             has_kid: if ask.key.kid.is_some() { 1 } else { 0 },
-            alg: ask.alg.number() as i32,
+            alg: number_of_alg(ask.alg),
             place: ask.auth_at,
             kid: octets_of(ask.key.kid),
             x: ask.key.x,
