@@ -61,6 +61,8 @@ HOLDING = {
     "cose_c::message::cose_edge_verify_detached",
     "cose_c::message::verify_large",
     "cose_c::message::verify_large_detached",
+    "cose_c::stream::open",
+    "cose_c::stream::open_detached",
     "cose_c::table::begin",
     "cose_mac::hasher::Hasher::finish",
     "cose_map::bucket::both::least_of_elements_in_any_order",
