@@ -16,7 +16,8 @@ struct written {
     size_t length;
 };
 
-static struct written one_key, keys, message, deep_message, detached, token, deep_claims, payload;
+static struct written one_key, keys, okp_key, message, deep_message, detached, token, deep_claims, payload;
+static struct written signed_message, signed_detached;
 static _Alignas(COSE_BLOCK_ALIGN) uint8_t block[COSE_TABLE_BLOCK], large_block[COSE_LARGE_VERIFIER_BLOCK];
 static struct cose_verifier verifier = {block};
 static struct cose_large_verifier large = {large_block};
@@ -25,6 +26,7 @@ static struct cose_maker maker = {block};
 static struct cose_signer signer = {block};
 static struct cose_message_verdict verdict;
 static struct cose_signature_input input;
+static struct cose_eddsa_input eddsa;
 static struct cose_message_shape shape;
 static struct cose_key_set key_set;
 static struct cose_claims_set claims;
@@ -63,6 +65,25 @@ static void put_key(struct written *to, uint8_t first, int depth)
     put(to, "\xa3\x01\x04\x20\x58\x20", 6);
     put(to, secret, sizeof secret);
     put_nested(to, 0x0a, depth);
+}
+
+/* An OKP key of 32 bytes, with labels out of order, and a member that nests as deep as the key set may. */
+static void put_okp_key(struct written *to, int depth)
+{
+    const uint8_t x[32] = {0};
+    put(to, "\xa4", 1);
+    put_nested(to, 0x0a, depth);
+    put(to, "\x21\x58\x20", 3);
+    put(to, x, sizeof x);
+    put(to, "\x20\x06\x01\x01", 4);
+}
+
+/* The COSE_Sign1 by EdDSA that has the parts of a COSE_Mac0: its signature is too short. */
+static void put_signed(struct written *to, const struct written *mac0)
+{
+    *to = *mac0;
+    to->bytes[0] = 0xd2;
+    to->bytes[3 + to->bytes[3]] = 0x27;
 }
 
 /* A COSE_Mac0 with labels out of order, and two items that nest so deep, whose tag is wrong. */
@@ -108,6 +129,9 @@ static void write_all(void)
     put_message(&message, 7, &payload);
     put_message(&deep_message, 15, &payload);
     put_message(&detached, 7, NULL);
+    put_okp_key(&okp_key, 7);
+    put_signed(&signed_message, &message);
+    put_signed(&signed_detached, &detached);
     put_claims(&deep_claims, 7);
     /* a token whose tag is right */
     cose_maker_begin(block);
@@ -157,6 +181,30 @@ static void verify_keys(void)
 static void verify_beside(void)
 {
     cose_verify_detached(OF(one_key), NULL, 0, COSE_TAGGED, OF(detached), OF(payload), &verdict, &input);
+}
+static void verify_eddsa(void)
+{
+    cose_verify_eddsa(OF(okp_key), NULL, 0, COSE_TAGGED, OF(signed_message), &eddsa, &pieces);
+}
+static void verify_eddsa_beside(void)
+{
+    cose_verify_eddsa_detached(OF(okp_key), NULL, 0, COSE_TAGGED, OF(signed_detached), OF(payload), &eddsa, &pieces);
+}
+static void open_under(void)
+{
+    cose_open_under(&verifier, &terms, &status);
+}
+static void open_under_beside(void)
+{
+    cose_open_under_detached(&verifier, &terms, payload.length, &status);
+}
+static void large_open_under(void)
+{
+    cose_large_open_under(&large, &terms, &status);
+}
+static void large_open_under_beside(void)
+{
+    cose_large_open_under_detached(&large, &terms, payload.length, &status);
 }
 static void shapes(void)
 {
@@ -522,6 +570,8 @@ static const struct {
     {"verify", verify, SMALL, &verdict.reason, COSE_REASON_BAD_AUTH},
     {"verify, 64 keys", verify_keys, SMALL, &verdict.reason, COSE_REASON_AMBIGUOUS_KEY},
     {"verify_detached", verify_beside, SMALL, &verdict.reason, COSE_REASON_BAD_AUTH},
+    {"verify_eddsa", verify_eddsa, SMALL, &eddsa.reason, COSE_REASON_BAD_AUTH_LENGTH},
+    {"verify_eddsa_detached", verify_eddsa_beside, SMALL, &eddsa.reason, COSE_REASON_BAD_AUTH_LENGTH},
     {"shape", shapes, SMALL, &shape.status, COSE_COMPLETE},
     {"read_keys", read_keys, SMALL, &key_set.status, COSE_COMPLETE},
     {"verify_cwt", verify_cwt, SMALL, &claims.status, COSE_AUTHENTIC},
@@ -548,6 +598,9 @@ static const struct {
     {"wipe_bytes", wipe_bytes, SMALL, NULL, 0},
     {"key_of", key_of, SMALL, &item.present, 1},
     {"mismatch", mismatch, SMALL, &fit.status, COSE_COMPLETE},
+    {"open_under", open_under, SMALL, &status.status, COSE_MORE},
+    {"feed, under terms", feed, SMALL, &fed.status.status, COSE_REFUSED},
+    {"open_under_detached", open_under_beside, SMALL, &status.status, COSE_MORE},
     {"open_detached", open_beside, SMALL, &status.status, COSE_MORE},
     {"feed, to the payload", feed_head, SMALL, &fed.status.status, COSE_PAYLOAD_NEXT},
     {"feed_payload", feed_payload, SMALL, NULL, 0},
@@ -563,6 +616,8 @@ static const struct {
     {"large_verdict", large_decide, SMALL, &verdict.reason, COSE_REASON_BAD_AUTH},
     {"large_verdict_for", large_decide_for, SMALL, &verdict.reason, COSE_REASON_BAD_AUTH},
     {"large_reset", large_reset, SMALL, NULL, 0},
+    {"large_open_under", large_open_under, SMALL, &status.status, COSE_MORE},
+    {"large_open_under_detached", large_open_under_beside, SMALL, &status.status, COSE_MORE},
     {"large_open_detached", large_open_beside, SMALL, &status.status, COSE_MORE},
     {"large_feed, to the payload", large_feed_head, SMALL, &fed.status.status, COSE_PAYLOAD_NEXT},
     {"large_feed_payload", large_feed_payload, SMALL, NULL, 0},
