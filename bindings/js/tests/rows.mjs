@@ -363,6 +363,9 @@ function inPiecesUnder(keys, token, stated, size) {
 async function runEddsa(group, test) {
     const { result } = test;
     if (!sizes(group, result.reason).some(({ large }) => !large)) throw new LeftOut("its limits of headers are others");
+    // (the head of the signature has two bytes)
+    const isFollowed = result.reason === "BadAuth" && test.message.length > 2 * (result.place + 2) + test.signature.length;
+    if (isFollowed) throw new LeftOut("a byte after the message is refused before its signature is asked about");
     let alg;
     const isGood = (input) => {
         equal([input.x, input.structure, input.signature].map(hex), [test.x, test.structure, test.signature], "what is asked");

@@ -6,7 +6,7 @@ import { leftOutOf, lineOf, runFile, SCHEMAS } from "./rows.mjs";
 /** How many rows of each file are left out, so that no more are. */
 const LEFT_OUT = {
     messages: 68,
-    further_messages: 9,
+    further_messages: 11,
     detached: 7,
     elsewhere: 0,
     shapes: 7,

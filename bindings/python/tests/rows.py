@@ -752,10 +752,17 @@ class EddsaSignature:
         return self.holds
 
 
+def is_followed(test: Row, place: int) -> bool:
+    """Whether a byte follows the signature, whose head of two bytes is at this place."""
+    return len(octets(test, "message")) > place + 2 + len(octets(test, "signature"))
+
+
 def run_eddsa(group: Row, test: Row) -> None:
     result = test["result"]
     if False not in sizes(group, result.get("reason")):
         raise LeftOut("its limits of headers are others")
+    if result.get("reason") == "BadAuth" and is_followed(test, result["place"]):
+        raise LeftOut("a byte after the message is refused before its signature is asked about")
     said = EddsaSignature(test)
     found = answer(
         lambda: (
