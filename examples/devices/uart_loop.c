@@ -8,7 +8,7 @@
 /* A COSE_Key. A device has one of its own. */
 static const uint8_t key[] = {0xa3, 0x01, 0x04, 0x03, 0x05, 0x20, 0x44, 'J', 'e', 'f', 'e'};
 
-static _Alignas(16) uint8_t block[3328];
+static _Alignas(16) uint8_t block[3456];
 
 /* The payload of the message that is read, which nobody acts on before the message is authentic. */
 static uint8_t payload[128];

@@ -11,7 +11,7 @@
 /* A COSE_Key. A device has one of its own. */
 static const uint8_t key[] = {0xa3, 0x01, 0x04, 0x03, 0x05, 0x20, 0x44, 'J', 'e', 'f', 'e'};
 
-static _Alignas(16) uint8_t block[3328];
+static _Alignas(16) uint8_t block[3456];
 
 enum { BLOCK = 64 };
 
