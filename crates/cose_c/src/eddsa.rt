@@ -140,7 +140,8 @@ fn input_or_refusal<'k>(
     pieces: &mut CoseFrontPieces,
 ) -> CoseEddsaInput<'k>
     requires context { IfOk asked.now (λ ask. length (piece_at 0 (pieces_of ask.front)) ≤ 12) }
-    ensures status { status_in result ≡ eddsa_status (unless_refused (Some (asked_result asked.now))) }
+    ensures status { status_in result
+        ≡ eddsa_status (unless_refused (Some (asked_result asked.now))) }
     ensures input { (aad : List ℕ)
         → IfOk asked.now (λ ask. piece_at 4 (pieces_of ask.front) ≡ aad) → result.status ≡ 2
         → GivesEddsa aad (unless_refused (Some (asked_result asked.now))) pieces.new result }
@@ -193,10 +194,12 @@ pub extern "C" fn cose_edge_verify_eddsa_detached(
     pieces: &mut CoseFrontPieces,
 )
     ensures status { status_in input.new ≡ eddsa_status
-        (asked_given 1024 8 (beside_it payload.now (setting_given (keys_of keys.now) aad.now wanted))
+        (asked_given 1024 8
+        (beside_it payload.now (setting_given (keys_of keys.now) aad.now wanted))
         (okp_keys_of keys.now) message.now) }
     ensures input { input.new.status ≡ 2 → GivesEddsa aad.now
-        (asked_given 1024 8 (beside_it payload.now (setting_given (keys_of keys.now) aad.now wanted))
+        (asked_given 1024 8
+        (beside_it payload.now (setting_given (keys_of keys.now) aad.now wanted))
         (okp_keys_of keys.now) message.now)
         pieces.new input.new }
 {

@@ -182,7 +182,8 @@ fn found_in_none<'k>(query: &Query) -> Result<(Key<'k>, i128), Reason>
 /// and without both the key's own.
 fn number_of(query: &Query<'_>, own: Option<Label<'_>>) -> Option<i128>
     ensures { let q = question query.now in
-        result ≡ spec.number_among q.protected_alg q.unprotected_alg (option_map label_value own.entry) }
+        result ≡ spec.number_among q.protected_alg q.unprotected_alg
+        (option_map label_value own.entry) }
 {
     match query.protected_alg.or(query.unprotected_alg).or(own) {
         Some(Label::Int(number)) => Some(number),

@@ -128,7 +128,8 @@ impl<'k, const H: usize, const D: usize> Reader<'k, H, D> {
 
     /// The key, the digest and the signature of a COSE_Sign1, once all bytes are there.
     pub(crate) fn sign_input(&self) -> Option<(Key<'k>, &[u8], &[u8])>
-        ensures value { option_map (input_value (signed_at self.now)) result ≡ sign_input_by self.now }
+        ensures value { option_map (input_value (signed_at self.now)) result
+            ≡ sign_input_by self.now }
         ensures digest { IfSome result (λ input. length input.1.now ≤ 64) }
         ensures signature { IfSome result (λ input. length input.2.now ≤ 132) }
     {
