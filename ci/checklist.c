@@ -51,14 +51,23 @@ static int is_good(const struct signature *said, const struct cose_signature_inp
     return said->bytes.length > 0 && is_asked == said->is_good;
 }
 
+/* The calls of a row: those of either size, or those of a table that was read under the row's terms. */
+enum way { SMALL, LARGE, TABLE };
+
+static _Alignas(COSE_BLOCK_ALIGN) uint8_t block[COSE_TABLE_BLOCK];
+static struct cose_table table = {block};
+
 /* The verdict on a message in one call. A signature that isn't good leaves it COSE_SIGNED, which isn't COSE_AUTHENTIC.
  */
-static struct cose_message_verdict authenticated(const struct row *row, int is_large)
+static struct cose_message_verdict authenticated(const struct row *row, enum way way)
 {
     struct cose_message_verdict verdict;
     struct cose_signature_input input;
     const struct bytes token = row->token, payload = row->payload;
-    if (row->is_detached)
+    const int is_large = way == LARGE;
+    if (way == TABLE)
+        cose_table_authenticate(&table, token.at, token.length, &verdict, &input);
+    else if (row->is_detached)
         (is_large ? cose_large_authenticate_detached : cose_authenticate_detached)(
             &row->terms, token.at, token.length, payload.at, payload.length, &verdict, &input);
     else
@@ -69,13 +78,17 @@ static struct cose_message_verdict authenticated(const struct row *row, int is_l
 }
 
 /* The claims of a token: of a signed one in two calls. */
-static struct answer admitted(const struct row *row, int is_large)
+static struct answer admitted(const struct row *row, enum way way)
 {
     struct cose_claims_set claims;
     const struct bytes token = row->token;
-    (is_large ? cose_large_admit : cose_admit)(&row->terms, &row->requirements, token.at, token.length, &claims);
+    const int is_large = way == LARGE;
+    if (way == TABLE)
+        cose_table_admit(&table, &row->requirements, token.at, token.length, &claims);
+    else
+        (is_large ? cose_large_admit : cose_admit)(&row->terms, &row->requirements, token.at, token.length, &claims);
     if (claims.status == COSE_SIGNED) {
-        struct cose_message_verdict verdict = authenticated(row, is_large);
+        struct cose_message_verdict verdict = authenticated(row, way);
         if (verdict.status != COSE_AUTHENTIC)
             return (struct answer){verdict.status, verdict.reason, verdict.place, 0};
         (is_large ? cose_large_admit_claims : cose_admit_claims)(&row->requirements, token.at + verdict.payload_at,
@@ -97,21 +110,27 @@ static int has_parameters(const struct row *row, uint32_t is_protected, int is_l
     return has_all;
 }
 
-static struct answer checked(const struct row *row, int is_large)
+static struct answer checked(const struct row *row, enum way way)
 {
     if (row->is_detached) {
-        struct cose_message_verdict verdict = authenticated(row, is_large);
+        struct cose_message_verdict verdict = authenticated(row, way);
         return (struct answer){verdict.status, verdict.reason, verdict.place, 0};
     }
-    struct answer answer = admitted(row, is_large);
+    if (way == TABLE) {
+        struct cose_key_set key_set;
+        cose_table_read_under(&table, &row->terms, &key_set);
+        if (key_set.status != COSE_COMPLETE)
+            return (struct answer){key_set.status, key_set.reason, key_set.place, 0};
+    }
+    struct answer answer = admitted(row, way);
     if (answer.status == COSE_AUTHENTIC)
-        answer.is_dropped = !has_parameters(row, 0, is_large) || !has_parameters(row, 1, is_large);
+        answer.is_dropped = !has_parameters(row, 0, way == LARGE) || !has_parameters(row, 1, way == LARGE);
     return answer;
 }
 
-static int differs(const struct row *row, int is_large)
+static int differs(const struct row *row, enum way way)
 {
-    const struct answer seen = checked(row, is_large), wanted = row->wanted;
+    const struct answer seen = checked(row, way), wanted = row->wanted;
     if (seen.status == wanted.status && seen.reason == wanted.reason && seen.place == wanted.place &&
         seen.is_dropped == wanted.is_dropped)
         return 0;
@@ -123,9 +142,16 @@ static int differs(const struct row *row, int is_large)
 int main(void)
 {
     const size_t count = sizeof rows / sizeof *rows;
-    int differences = 0;
-    for (size_t at = 0; at < count; at++)
-        differences += differs(&rows[at], 0) || (!rows[at].is_small && differs(&rows[at], 1));
-    printf("checklist: %zu rows, %d differ\n", count, differences);
+    int differences = 0, in_table = 0;
+    cose_table_begin(block);
+    for (size_t at = 0; at < count; at++) {
+        differences += differs(&rows[at], SMALL) || (!rows[at].is_small && differs(&rows[at], LARGE));
+        /* a table has no call for a detached payload */
+        if (!rows[at].is_detached) {
+            differences += differs(&rows[at], TABLE);
+            in_table++;
+        }
+    }
+    printf("checklist: %zu rows, %d of them by a table too, %d differ\n", count, in_table, differences);
     return differences != 0;
 }

@@ -12,7 +12,10 @@ import re
 import struct
 from typing import NamedTuple
 
-KEEPING = ("open", "open_detached", "open_elsewhere", "open_elsewhere_detached", "table_read")
+KEEPING = (
+    *("open", "open_detached", "open_elsewhere", "open_elsewhere_detached", "open_under", "open_under_detached"),
+    *("table_read", "table_read_under"),
+)
 HEADER = pathlib.Path(__file__).resolve().parent.parent / "include" / "cose.h"
 # the version of the library that the header is for
 VERSION = sum(int(re.search(rf"COSE_VERSION_{part} (\d+)", HEADER.read_text())[1]) << at for part, at in (("MAJOR", 16), ("MINOR", 8), ("PATCH", 0)))
@@ -91,11 +94,13 @@ def c_name(kind):
     return f"{'int' if kind(-1).value < 0 else 'uint'}{8 * ctypes.sizeof(kind)}_t"
 
 
-def read_fields(it, struct):
-    """The lines of C that read the fields of such a struct."""
+def read_fields(it, struct, is_kept):
+    """The lines of C that read the fields of such a struct, and copy its bytes where the block keeps them."""
     for name, kind, count in stated_fields(struct):
         if not count:
             yield f"{it}.{name} = bytes(&{it}.{name}_length);"
+            if is_kept:
+                yield f"{it}.{name} = keep(a0_slot, {it}.{name}, {it}.{name}_length, &used);"
         for at in range(count):
             yield f"{it}.{name}{f'[{at}]' if count > 1 else ''} = ({c_name(kind)})number({ctypes.sizeof(kind)});"
 
@@ -104,7 +109,8 @@ def struct_of(name):
     """The struct of C that has the block of a call."""
     kinds = {"_table_": "table", "_make_sign1": "signer", "_make": "maker"}
     kind = next((kind for part, kind in kinds.items() if part in name), "verifier")
-    return f"struct cose_{'large_' if '_large_' in name else ''}{kind}"
+    size = next((size for size in ("large_", "device_") if f"_{size}" in name), "")
+    return f"struct cose_{size}{kind}"
 
 
 def argument(library, name, at, word, kind):
@@ -123,7 +129,7 @@ def argument(library, name, at, word, kind):
         return [f"uint64_t {it}_slot = number(4);", f"{struct_of(name)} {it} = {{.at = block_at({it}_slot)}};"], f"&{it}"
     if word == "filled":
         return [f"void *{it} = filled({ctypes.sizeof(kind._type_)});"], it
-    return [f"{stated_structs(library)[kind._type_]} {it} = {{0}};", *read_fields(it, kind._type_)], f"&{it}"
+    return [f"{stated_structs(library)[kind._type_]} {it} = {{0}};", *read_fields(it, kind._type_, name.endswith(KEEPING))], f"&{it}"
 
 
 def cases(library):

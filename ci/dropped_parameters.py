@@ -41,8 +41,14 @@ def arguments(call, names, lines, after, nothing):
         yield f"stated, {call}: {name}", lines + after, lost + after
 
 
-SIGNED_ADMIT = "return _claims_under(requirements, _message(terms, data, None, ecdsa, large).payload, large)"
+SIGNED_ADMIT = "return claims_under(requirements, _message(terms, data, None, ecdsa, large).payload, large)"
 OF_MESSAGE = "return _message(terms, data, content, ecdsa, large)"
+# the same of terms_table.py, which has them in a class
+IN_CLASS = {"terms": TERMS_LINES.replace("\n    ", "\n        ").replace("        keys", "            keys", 1)}
+IN_CLASS["required"] = REQUIRED_LINE.replace("\n    )", "\n        )").replace("        now", "            now", 1)
+TABLE_MESSAGE = "return self._message(data, found, ecdsa)"
+TABLE_SIGNED = "self._message(data, verdict, ecdsa).payload"
+TABLE_RECEIVED = "(data, self._terms.struct.kind, False)"
 ADMITTED = "found, calls = ClaimsStruct(), _library.large if large else small\n    calls.edge_admit"
 PYTHON = losses_of(
     "bindings/python/src/cose",
@@ -90,18 +96,26 @@ PYTHON = losses_of(
         "admitting.py": [
             *arguments("authenticate", TERMS, TERMS_LINES, "    return _message(", NOT_STATED),
             *arguments("admit", TERMS, TERMS_LINES, "    found, calls", NOT_STATED),
-            *arguments("admit_claims", REQUIRED, REQUIRED_LINE, "    return _claims_under", NOT_REQUIRED),
+            *arguments("admit_claims", REQUIRED, REQUIRED_LINE, "    return claims_under", NOT_REQUIRED),
             *arguments("admit", REQUIRED, REQUIRED_LINE, "    terms = ", NOT_REQUIRED),
             ("stated, authenticate: payload", "else bytes_of(payload, ", 'else b"" and bytes_of(payload, '),
             ("stated, authenticate: ecdsa", OF_MESSAGE, OF_MESSAGE.replace("ecdsa", "lambda _: True")),
             ("stated, authenticate: large", OF_MESSAGE, OF_MESSAGE.replace("large", "False")),
             ("stated, authenticate: the kind of parameters", "received = data, terms.struct.kind, large", "received = data, 0, large"),
             ("stated, authenticate: large parameters", "received = data, terms.struct.kind, large", "received = data, terms.struct.kind, False"),
-            ("stated, admit_claims: large", "return _claims_under(requirements, data, large)", "return _claims_under(requirements, data, False)"),
+            ("stated, admit_claims: large", "return claims_under(requirements, data, large)", "return claims_under(requirements, data, False)"),
             ("stated, admit: large", f"{ADMITTED}(", f"{ADMITTED.replace('_library.large if large else small', 'small')}("),
             ("stated, admit: ecdsa", SIGNED_ADMIT, SIGNED_ADMIT.replace("ecdsa", "lambda _: True")),
             ("stated, admit: large of a signed token", SIGNED_ADMIT, SIGNED_ADMIT.replace("ecdsa, large", "ecdsa, False")),
             ("stated, admit: large claims of a signed token", SIGNED_ADMIT, SIGNED_ADMIT.replace("payload, large)", "payload, False)")),
+        ],
+        "terms_table.py": [
+            *arguments("TermsTable", TERMS, IN_CLASS["terms"], "        # the memory", NOT_STATED),
+            *arguments("TermsTable.admit", REQUIRED, IN_CLASS["required"], "        required = ", NOT_REQUIRED),
+            ("stated, TermsTable.authenticate: ecdsa", TABLE_MESSAGE, TABLE_MESSAGE.replace("ecdsa", "lambda _: True")),
+            ("stated, TermsTable.admit: ecdsa", TABLE_SIGNED, TABLE_SIGNED.replace("ecdsa", "lambda _: True")),
+            ("stated, TermsTable: the kind of parameters", TABLE_RECEIVED, TABLE_RECEIVED.replace("self._terms.struct.kind", "0")),
+            ("stated, TermsTable: the keys", "byref(self._terms.struct), byref(read)", "byref(type(self._terms.struct)()), byref(read)"),
         ],
         "many.py": [
             ("verify_many: now", f"policy, external = {GIVEN}", f"policy, external = {GIVEN.replace('now', 'None')}"),
@@ -145,9 +159,10 @@ MADE = "constructor(cose,"
 FED_DETACHED = '"open_detached", true)(this.handle, ...given,'
 FED_PAYLOAD = '"feed_payload", true)(this.handle, ...scope.put(piece)))'
 PIECE = "cose_edge_make_piece(this.handle, ...scope.put(piece)))"
-IS_GOOD = "if (await isGoodSignature(input, structure)) return payload;\n        throw new Refused({ status"
-IS_GOOD_TOO = "if (await isGoodSignature(input, structure)) return payload;\n        throw new Refused(this"
+IS_GOOD = "if (await isGoodSignature(input, sigStructure(protectedOf(message), aad, content))) return content;"
 UNDER = "this.authenticate(keys, message, terms)"
+IN_TABLE = "this.admit(token, { ...others, now })"
+SIGNED_IN_TABLE = "this.authenticPayload(token), { ...others, now })"
 IN_PARAMETER = "[wanted, ...scope.put(message), isProtected ? 1 : 0]"
 JAVASCRIPT = losses_of(
     "bindings/js",
@@ -177,17 +192,22 @@ JAVASCRIPT = losses_of(
         ],
         "index.mjs": [
             ("payload: options", "this.verify(keys, message, options)", "this.verify(keys, message)"),
-            ("payload, signed: aad", "protectedOf(message), options.aad ?? new Uint8Array()", "protectedOf(message), new Uint8Array()"),
-            ("payload: the promise of a signature", IS_GOOD_TOO, IS_GOOD_TOO.replace("await ", "")),
-            ("payload, detached", "const payload = options.payload ?? ", "const payload = "),
+            ("payload, signed: aad", "message, options), message, options)", "message, options), message, { ...options, aad: undefined })"),
+            ("payload, detached", "message, options), message, options)", "message, options), message, { ...options, payload: undefined })"),
+            ("authentic: the promise of a signature", IS_GOOD, IS_GOOD.replace("await ", "")),
+            ("authentic: the signature", IS_GOOD, "return content;"),
             ("a bad signature: its place", "reason: BAD_AUTH, place }", "reason: BAD_AUTH, place: 0 }"),
             ("stated, authenticPayload: terms", UNDER, UNDER.replace(", terms", "")),
-            ("stated, authenticPayload, signed: aad", "protectedOf(message), terms.aad ?? new Uint8Array()", "protectedOf(message), new Uint8Array()"),
-            ("stated, authenticPayload: the detached payload", "const payload = terms.payload ?? ", "const payload = "),
-            ("stated, authenticPayload: a promise", IS_GOOD, IS_GOOD.replace("await ", "")),
+            ("stated, authenticPayload, signed: aad", f"{UNDER}, message, terms)", f"{UNDER}, message, {{ ...terms, aad: undefined }})"),
+            ("stated, authenticPayload: the detached payload", f"{UNDER}, message, terms)", f"{UNDER}, message, {{ ...terms, payload: undefined }})"),
+            ("stated, TermsTable.authenticPayload, signed: aad", "message, { aad: this.aad })", "message, {})"),
+            ("stated, TermsTable.admitted: requirements", IN_TABLE, IN_TABLE.replace("...others, ", "")),
+            ("stated, TermsTable.admitted: now", IN_TABLE, IN_TABLE.replace("now }", "now: Math.floor(Date.now() / 1000) }")),
+            ("stated, TermsTable.admitted, signed: requirements", SIGNED_IN_TABLE, SIGNED_IN_TABLE.replace("...others, ", "")),
+            ("stated, TermsTable.admitted, signed: now", SIGNED_IN_TABLE, SIGNED_IN_TABLE.replace("now }", "now: Math.floor(Date.now() / 1000) }")),
             ("stated, admitted: terms", "this.authenticPayload(keys, token, others)", "this.authenticPayload(keys, token)"),
             ("stated, admitted: requirements", "this.admitClaims(payload, { ...others, now })", "this.admitClaims(payload, { now })"),
-            ("stated, admitted: now", "{ ...others, now });", "{ ...others, now: Math.floor(Date.now() / 1000) });"),
+            ("stated, admitted: now", "this.admitClaims(payload, { ...others, now })", "this.admitClaims(payload, { ...others, now: Math.floor(Date.now() / 1000) })"),
             ("token: now", "this.claims(payload, { now, leeway,", "this.claims(payload, { now: Math.floor(Date.now() / 1000), leeway,"),
             ("token: leeway", "{ now, leeway, audience, large", "{ now, audience, large"),
             ("token: audience", "{ now, leeway, audience, large", "{ now, leeway, large"),
@@ -198,22 +218,30 @@ JAVASCRIPT = losses_of(
             ("token: large", "this.payload(keys, token, others)", "this.payload(keys, token, { ...others, large: false })"),
         ],
         "cose.js": [
-            ("verify: aad", "...scope.put(aad),\n                wanted,", "...scope.put(NOTHING),\n                wanted,"),
+            ("verify: aad", "...scope.put(aad),\n                wanted,", "...scope.put(STRUCTS.NOTHING),\n                wanted,"),
             ("verify: wanted", "...scope.put(aad),\n                wanted,", "...scope.put(aad),\n                0,"),
             ("verify: large", '"table_" : large ? "large_" : ""}verify$', '"table_" : ""}verify$'),
             ("shape: wanted", "cose_edge_shape(wanted,", "cose_edge_shape(0,"),
             ("the policy: now", 'view.setBigInt64(place("now"), BigInt(now)', 'view.setBigInt64(place("now"), 0n'),
             ("the policy: leeway", 'place("leeway"), leeway', 'place("leeway"), 0'),
             ("the policy: audience", "audience === undefined ? 0 : 1", "0"),
-            ("verifyCwt: aad", "const external = scope.put(aad)", "const external = scope.put(NOTHING)"),
+            ("verifyCwt: aad", "const external = scope.put(aad)", "const external = scope.put(STRUCTS.NOTHING)"),
             ("verifyCwt: large", '"table_" : large ? "large_" : "";', '"table_" : "";'),
             ("claims: large", '${large ? "large_" : ""}claims', "claims"),
             ("stated, parameter: wanted", IN_PARAMETER, IN_PARAMETER.replace("wanted", "0")),
             ("stated, parameter: the bucket", IN_PARAMETER, IN_PARAMETER.replace("isProtected ? 1 : 0", "1")),
             ("stated, parameter: large", 'cose_edge_${large ? "large_" : ""}parameter', "cose_edge_parameter"),
+        ],
+        "terms_table.js": [
+            ("stated, TermsTable: aad of signatures", "this.aad = new Uint8Array(terms.aad ?? []);", "this.aad = new Uint8Array();"),
+            ("stated, TermsTable: terms", "(kept), keys, terms)", "(kept), keys, {})"),
+            ("stated, TermsTable: large", "if (terms.large) throw", "if (false) throw"),
+            ("stated, TermsTable.admit: requirements", "GIVEN.requirements(this.cose, scope, requirements)", "GIVEN.requirements(this.cose, scope, { now: requirements.now })"),
+        ],
+        "cose_blocks.js": [
             ("stated, parameter of a verifier: the bucket", "[this.handle, isProtected ? 1 : 0]", "[this.handle, 1]"),
             ("stated, parameter of a verifier: large", "this.prefix ? 65_535 : 1_024", "1_024"),
-            ("Verifier: aad", "...this.keep(keys), ...this.keep(aad)", "...this.keep(keys), ...this.keep(NOTHING)"),
+            ("Verifier: aad", "...this.keep(keys), ...this.keep(aad)", "...this.keep(keys), ...this.keep(FORMS.NOTHING)"),
             ("Verifier: wanted", '"open", true)(this.handle, ...given, wanted,', '"open", true)(this.handle, ...given, 0,'),
             ("Verifier, detached: wanted", f"{FED_DETACHED} wanted,", f"{FED_DETACHED} 0,"),
             ("Verifier: payloadLength", "wanted, BigInt(payloadLength),", "wanted, 2n,"),
@@ -223,8 +251,8 @@ JAVASCRIPT = losses_of(
             ("feed: used", "return { ...status, used,", "return { ...status, used: piece.length,"),
             ("feedPayload: used, 1 for 0", f"{FED_PAYLOAD});", f"{FED_PAYLOAD} || 1);"),
             ("Maker: alg", "this.handle,\n                alg,", "this.handle,\n                5,"),
-            ("Maker: kid", "...scope.put(kid)", "...scope.put(NOTHING)"),
-            ("Maker: aad", "...scope.put(kid),\n                ...scope.put(aad)", "...scope.put(kid),\n                ...scope.put(NOTHING)"),
+            ("Maker: kid", "...scope.put(kid)", "...scope.put(FORMS.NOTHING)"),
+            ("Maker: aad", "...scope.put(kid),\n                ...scope.put(aad)", "...scope.put(kid),\n                ...scope.put(FORMS.NOTHING)"),
             ("Maker: payloadLength", "                BigInt(payloadLength),\n", "                2n,\n"),
             ("Maker: used, 1 for 0", f"{PIECE},", f"{PIECE} || 1,"),
         ],
@@ -259,6 +287,14 @@ RUST = losses_of(
             ("stated: present", ".fold(0, |flags, claim| flags | 1 << (*claim as u8 - 1)),", ".fold(0, |flags, _| flags),"),
             ("stated: without_exp", "permitted: u8::from(self.without_exp),", "permitted: 0,"),
         ],
+        "terms_table.rs": [
+            ("stated, TermsTable: terms", "let terms = terms.raw()?;", "let terms = Terms { keys: terms.keys, ..Terms::default() }.raw()?;"),
+            (
+                "stated, TermsTable::admit: requirements",
+                "let requirements = requirements.raw()?;",
+                "let requirements = Requirements { now: requirements.now, ..Requirements::default() }.raw()?;",
+            ),
+        ],
         "size.rs": [
             ("stated, parameter: wanted", "(Self::FUNCTIONS.parameter)(\n                    wanted as u8,", "(Self::FUNCTIONS.parameter)(\n                    0,"),
             ("stated, parameter: the bucket", "u32::from(bucket == Bucket::Protected)", "u32::from(bucket == Bucket::Protected) | 1"),
@@ -268,7 +304,8 @@ RUST = losses_of(
             ("open: wanted", f"{OPEN}{AAD}options.wanted as u8", f"{OPEN}{AAD}0"),
             ("open_detached: aad", OPEN_DETACHED + AAD, OPEN_DETACHED + NO_AAD),
             ("open_detached: wanted", f"{OPEN_DETACHED}{AAD}options.wanted as u8", f"{OPEN_DETACHED}{AAD}0"),
-            ("open_detached: payload_length", "payload_length,\n                &mut status", "2,\n                &mut status"),
+            ("open_detached: payload_length", "wanted as u8,\n                payload_length,", "wanted as u8,\n                2,"),
+            ("open_under_detached: payload_length", "&raw,\n                payload_length,", "&raw,\n                2,"),
             ("feed: used, 1 for 0", "used: part(piece, 0, fed.used)?.len(),", "used: part(piece, 0, fed.used)?.len().max(1),"),
             ("feed_payload: used, 1 for 0", f"{USED})\n    }}\n\n    /// The status.", f"{USED}.max(1))\n    }}\n\n    /// The status."),
             ("stated, parameter of a verifier: the bucket", "u32::from(bucket == Bucket::Protected))", "u32::from(bucket == Bucket::Protected) | 1)"),
@@ -319,6 +356,7 @@ REQUIRED_OF = "return { now, leeway, issuer, subject, audience, present, without
 LARGE = "const verifier = new Verifier(cose, { large: true });\n    "
 STATED = "{ ...request.terms, large: true, ...detached }"
 ALONE = "{ ...terms, ...stated, large: true }"
+WITH_PAYLOAD = "message, { aad, wanted, payload });"
 PAGE = losses_of(
     "web",
     {
@@ -366,6 +404,18 @@ PAGE = losses_of(
             ("aad of a detached message", "verifier.open(key, { aad, wanted,", "verifier.open(key, { wanted,"),
             ("wanted of a detached message", "verifier.open(key, { aad, wanted,", "verifier.open(key, { aad,"),
             ("two keys that fit", "if (fitting.length === 1) fitting[0]", "if (fitting.length >= 1) fitting[0]"),
+        ],
+        "eddsa.js": [
+            ("stated: the keys of EdDSA that are left out", "(isAllowed(item, terms) ? bytes : NO_PAIRS)", "bytes"),
+            ("stated: the algorithms of EdDSA", "return own !== undefined && algorithms.includes(labelNumber(own));", "return own !== undefined;"),
+            ("stated: keys of EdDSA without alg", "return own !== undefined || withoutAlg;", "return true;"),
+            ("aad of EdDSA", WITH_PAYLOAD, WITH_PAYLOAD.replace("aad, ", "")),
+            ("wanted of EdDSA", WITH_PAYLOAD, WITH_PAYLOAD.replace("wanted, ", "")),
+            ("the detached payload of EdDSA", WITH_PAYLOAD, WITH_PAYLOAD.replace(", payload", "")),
+            ("a signature by EdDSA that isn't good", "if (isSignatureGood === true) return", "if (isSignatureGood !== undefined) return"),
+            ("the promise of a signature by EdDSA", "const isSignatureGood = await eddsaHolds", "const isSignatureGood = eddsaHolds"),
+            ("a browser without Ed25519", '"NotSupportedError" ? undefined : false', '"NotSupportedError" ? false : false'),
+            ("Ed448", "if (input.crv !== ED25519) return undefined;", ""),
         ],
     },
 )

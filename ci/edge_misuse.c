@@ -1,29 +1,10 @@
 /* Calls the library as its header allows, and as no careful caller would: empty and NULL slices, numbers out of range,
  * blocks without keys. Each call has to answer with one status, and prints a line where it answers with another. */
-#include "cose.h"
-#include <stdio.h>
-#include <string.h>
+#include "edge_misuse.h"
 
-/* A symmetric key and the COSE_Mac0 of `hi` under it (examples/make_mac0). */
-static const uint8_t keys[] = {0xa2, 0x01, 0x04, 0x20, 0x44, 'J', 'e', 'f', 'e'};
-static const uint8_t mac0[] = {0xd1, 0x84, 0x43, 0xa1, 0x01, 0x05, 0xa0, 0x42, 'h',  'i',  0x58, 0x20, 0x7d, 0x81, 0xe9,
-                               0x64, 0xaa, 0xee, 0x5f, 0xbd, 0x8a, 0xdf, 0xb3, 0xf5, 0x33, 0x65, 0x7a, 0x9e, 0xf9, 0xf7,
-                               0x82, 0xf0, 0x4b, 0x91, 0x87, 0x7b, 0x60, 0x04, 0x27, 0x2a, 0x03, 0x52, 0xf9, 0x60};
 /* A key on P-256, and a COSE_Sign1 of no bytes for it, whose signature is zeros. */
 static uint8_t point[76] = {0xa4, 0x01, 0x02, 0x20, 0x01, 0x21, 0x58, 0x20};
 static uint8_t sign1[74] = {0xd2, 0x84, 0x43, 0xa1, 0x01, 0x26, 0xa0, 0x40, 0x58, 0x40};
-
-static uint8_t much[65536];
-static _Alignas(64) uint8_t block[16384];
-static int failures;
-
-static void is(const char *what, uint64_t found, uint64_t wanted)
-{
-    if (found == wanted)
-        return;
-    printf("%s: %llu, not %llu\n", what, (unsigned long long)found, (unsigned long long)wanted);
-    failures++;
-}
 
 static struct cose_message_verdict verify(const uint8_t *set, size_t set_length, const uint8_t *aad, size_t aad_length,
                                           enum cose_kind_number kind, const uint8_t *message, size_t length)
@@ -143,7 +124,6 @@ static void choices(void)
 
 static void stated(void)
 {
-    static const uint8_t by_alg[] = {0xa3, 0x01, 0x04, 0x03, 0x05, 0x20, 0x44, 'J', 'e', 'f', 'e'};
     static const uint8_t iss[] = {0xa2, 0x01, 0x61, 'a', 0x04, 0x02};
     struct cose_message_verdict verdict;
     struct cose_signature_input input;
@@ -478,18 +458,6 @@ static void numbers_of_messages(void)
     is("an answer for another message, once more", verdict.status, COSE_BAD_ARGUMENT);
     is("open again", opened(&verifier, point, 75, COSE_TAGGED), COSE_MORE);
     is("a third number", cose_message_number(&verifier) != second, 1);
-}
-
-/* How many bytes of a block aren't those of one that was begun in memory of zeros. */
-static size_t left_in(const uint8_t *at, size_t size, void (*begin)(uint8_t *))
-{
-    static _Alignas(COSE_BLOCK_ALIGN) uint8_t blank[COSE_LARGE_VERIFIER_BLOCK];
-    memset(blank, 0, sizeof blank);
-    begin(blank);
-    size_t count = 0;
-    for (size_t i = 0; i < size; i++)
-        count += at[i] != blank[i];
-    return count;
 }
 
 /* A block that is wiped has the bytes of one that was begun in memory of zeros: none of a key, of what HMAC makes of

@@ -17,10 +17,12 @@ struct written {
 };
 
 static struct written one_key, keys, okp_key, message, deep_message, detached, token, deep_claims, payload;
-static struct written signed_message, signed_detached;
+static struct written signed_message, signed_detached, device_message, device_detached;
 static _Alignas(COSE_BLOCK_ALIGN) uint8_t block[COSE_TABLE_BLOCK], large_block[COSE_LARGE_VERIFIER_BLOCK];
+static _Alignas(COSE_BLOCK_ALIGN) uint8_t device_block[COSE_DEVICE_VERIFIER_BLOCK];
 static struct cose_verifier verifier = {block};
 static struct cose_large_verifier large = {large_block};
+static struct cose_device_verifier device = {device_block};
 static struct cose_table table = {block};
 static struct cose_maker maker = {block};
 static struct cose_signer signer = {block};
@@ -129,6 +131,8 @@ static void write_all(void)
     put_message(&message, 7, &payload);
     put_message(&deep_message, 15, &payload);
     put_message(&detached, 7, NULL);
+    put_message(&device_message, 3, &payload);
+    put_message(&device_detached, 3, NULL);
     put_okp_key(&okp_key, 7);
     put_signed(&signed_message, &message);
     put_signed(&signed_detached, &detached);
@@ -366,6 +370,28 @@ static void large_decide_for(void)
 {
     cose_large_verdict_for(&large, cose_large_message_number(&large), 1, &verdict);
 }
+/* A function that makes one call. */
+#define CALL(name, call)                                                                                               \
+    static void name(void)                                                                                             \
+    {                                                                                                                  \
+        call;                                                                                                          \
+    }
+CALL(device_begin, cose_device_begin(device_block))
+CALL(device_open, cose_device_open(&device, OF(one_key), NULL, 0, COSE_TAGGED, &status))
+CALL(device_open_beside, cose_device_open_detached(&device, OF(one_key), NULL, 0, COSE_TAGGED, payload.length, &status))
+CALL(device_feed, cose_device_feed(&device, OF(device_message), &fed))
+CALL(device_feed_head, cose_device_feed(&device, device_detached.bytes, device_detached.length - 34, &fed))
+CALL(device_feed_payload, number = cose_device_feed_payload(&device, OF(payload)))
+CALL(device_end, cose_device_end(&device, &status))
+CALL(device_sign_input, number = cose_device_sign_input(&device, &input))
+CALL(device_decide, cose_device_verdict(&device, 1, &verdict))
+CALL(device_decide_for, cose_device_verdict_for(&device, cose_device_message_number(&device), 1, &verdict))
+CALL(device_reset, cose_device_reset(&device))
+static void device_numbers(void)
+{
+    number = cose_device_wanted(&device) + cose_device_payload_wanted(&device) + cose_device_taken(&device) +
+             cose_device_held(&device) + cose_device_verifier_size() + cose_device_verifier_align();
+}
 static void open_elsewhere(void)
 {
     cose_open_elsewhere(&verifier, OF(one_key), NULL, 0, COSE_TAGGED, &status);
@@ -453,6 +479,22 @@ static void table_read_one(void)
 static void table_verify_cwt(void)
 {
     cose_table_verify_cwt(&table, NULL, 0, &policy, OF(token), &claims);
+}
+static void table_read_under(void)
+{
+    cose_table_read_under(&table, &terms_of_keys, &key_set);
+}
+static void table_authenticate(void)
+{
+    cose_table_authenticate(&table, OF(message), &verdict, &input);
+}
+static void table_read_under_one(void)
+{
+    cose_table_read_under(&table, &terms, &key_set);
+}
+static void table_admit(void)
+{
+    cose_table_admit(&table, &requirements, OF(token), &claims);
 }
 static void maker_begin(void)
 {
@@ -621,6 +663,18 @@ static const struct {
     {"large_open_detached", large_open_beside, SMALL, &status.status, COSE_MORE},
     {"large_feed, to the payload", large_feed_head, SMALL, &fed.status.status, COSE_PAYLOAD_NEXT},
     {"large_feed_payload", large_feed_payload, SMALL, NULL, 0},
+    {"device_begin", device_begin, SMALL, NULL, 0},
+    {"device_open", device_open, SMALL, &status.status, COSE_MORE},
+    {"device_feed", device_feed, SMALL, &fed.status.status, COSE_REFUSED},
+    {"the device's numbers", device_numbers, SMALL, NULL, 0},
+    {"device_end", device_end, SMALL, &status.status, COSE_REFUSED},
+    {"device_sign_input", device_sign_input, SMALL, NULL, 0},
+    {"device_verdict", device_decide, SMALL, &verdict.reason, COSE_REASON_BAD_AUTH},
+    {"device_verdict_for", device_decide_for, SMALL, &verdict.reason, COSE_REASON_BAD_AUTH},
+    {"device_reset", device_reset, SMALL, NULL, 0},
+    {"device_open_detached", device_open_beside, SMALL, &status.status, COSE_MORE},
+    {"device_feed, to the payload", device_feed_head, SMALL, &fed.status.status, COSE_PAYLOAD_NEXT},
+    {"device_feed_payload", device_feed_payload, SMALL, NULL, 0},
     {"open_elsewhere", open_elsewhere, SMALL, &status.status, COSE_MORE},
     {"feed, elsewhere", feed, SMALL, &fed.status.status, COSE_COMPLETE},
     {"front_pieces", front_pieces, SMALL, &answered, 1},
@@ -642,6 +696,11 @@ static const struct {
     {"table_verify", table_verify, SMALL, &verdict.reason, COSE_REASON_AMBIGUOUS_KEY},
     {"table_read, again", table_read_one, TABLE, &key_set.status, COSE_COMPLETE},
     {"table_verify_cwt", table_verify_cwt, SMALL, &claims.status, COSE_AUTHENTIC},
+    {"table_read_under", table_read_under, TABLE, &key_set.status, COSE_COMPLETE},
+    {"table_authenticate, 64 keys", table_authenticate, SMALL, &verdict.reason, COSE_REASON_AMBIGUOUS_KEY},
+    {"table_read_under, again", table_read_under_one, TABLE, &key_set.status, COSE_COMPLETE},
+    {"table_authenticate", table_authenticate, SMALL, &verdict.reason, COSE_REASON_BAD_AUTH},
+    {"table_admit", table_admit, SMALL, &claims.status, COSE_AUTHENTIC},
     {"maker_begin", maker_begin, SMALL, NULL, 0},
     {"make", make, SMALL, &made.status, COSE_MORE},
     {"make_piece", make_piece, SMALL, NULL, 0},

@@ -10,7 +10,7 @@ import edge_source as source
 
 NUMBERS = {"u8": "uint8_t", "u32": "uint32_t", "u64": "uint64_t", "i32": "int32_t", "i64": "int64_t", "usize": "uint64_t"}
 # calls that open, read or make something: with NULL they are made with nothing, so that the block has nothing then
-CLOSING = re.compile("^cose_edge_(large_)?open|^cose_edge_table_read$|^cose_edge_make(_sign1)?$")
+CLOSING = re.compile("^cose_edge_(large_|device_)?open|^cose_edge_table_read(_under)?$|^cose_edge_make(_sign1)?$")
 WIDTH = 138
 LAST = "#ifdef __cplusplus\n}\n#endif\n#endif\n"
 

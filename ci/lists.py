@@ -88,7 +88,7 @@ def of_claim(it):
 
 
 def of_call(it):
-    """A call's name without what the names of the small and the large one have in addition; some languages put that before it."""
+    """A call's name without what the names of its sizes have in addition; some languages put that before it."""
     return rf"(?:\b|_){it.name}\b"
 
 
@@ -121,7 +121,7 @@ def members(kind):
         "reason": lambda: [Member(it.name, it.number) for it in source.reasons()],
         "option": options,
         "export": lambda: [Member(it.name) for it in source.exports()],
-        "call": lambda: [Member(it) for it in sorted({re.sub("^cose_(edge_)?(large_)?", "", it.name) for it in source.exports()})],
+        "call": lambda: [Member(it) for it in sorted({re.sub("^cose_(edge_)?((large|device)_)?", "", it.name) for it in source.exports()})],
     }[kind]()
 
 
@@ -165,7 +165,7 @@ PLACES = {
             "crates/cose_c/specs/CoseClaims.antt crates/cose_c/specs/Claims.antt crates/cose_c/proofs/ClaimsForC.antt "
             "include/cose.h examples/c/gateway.c bindings/rust/src/claims.rs bindings/python/src/cose/tokens.py "
             "bindings/python/src/cose/__main__.py bindings/js/cose.js bindings/go/claims.go web/registry.js rows/claims.json "
-            "rows/tokens.json rows/README.md crates/conformance/src/claims.rt bindings/python/tests/rows.py "
+            "rows/tokens.json rows/README.md crates/conformance/src/claims.rt bindings/python/tests/row_answers.py "
             "bindings/js/tests/rows.mjs bindings/go/rows_test.go ci/rows ci/second_reading.py ci/second_program.py "
             "docs/COMMANDS.md docs/PROVED.md docs/USING.md",
         ),

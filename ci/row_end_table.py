@@ -1,18 +1,14 @@
 """The rules and their ends, for ci/row_ends.py: which line of the second reading each is, and how it is turned."""
 import re
 
-from row_ends import BYTES, NUMBERS, PROGRAM, READING, SIZES, SOURCES, End, alike, first_items
+from row_end_further import further_ends
+from row_ends import BYTES, NUMBERS, PROGRAM, READING, SIZES, SOURCES, End, alike, compared, first_items, left_out
 
 TOKENS = ("tokens", "claims", "commands")
 MESSAGES = ("messages", "detached", "shapes", "commands", "tokens")
 KEYS = ("keys", "sets", "choices", "messages", "commands")
 LABELS = ("buckets", "headers", "claims", "keys", "messages", "commands")
 CHOICES = ("choices", "messages", "tokens", "commands")
-
-
-def compared(rule, old, new, subjects, kinds, source=READING):
-    """The ends of a comparison: a line of the second reading, and the same line with `turned`."""
-    return [End(rule, end, ((old, new),), subjects, turned, source) for end, turned in kinds]
 
 
 # ---- bytes that are compared
@@ -32,7 +28,7 @@ def bytes_ends():
     old = "(None in (key.kid, kid) or key.kid == kid)\n"
     yield from compared("kid of the key that is chosen", old, old.replace("key.kid == kid", "turned(key.kid, kid)"), CHOICES, BYTES)
     old = 'return "" if None in (key.kid, kid) or key.kid == kid else "kid"'
-    yield from compared("kid of keys --for-message", old, old.replace("key.kid == kid", "turned(key.kid, kid)"), ("commands",), BYTES)
+    yield from compared("kid of keys --for-message", old, old.replace("key.kid == kid", "turned(key.kid, kid)"), ("commands",), BYTES, PROGRAM)
     old = "demand(name not in pairs, Reason.DuplicateLabel"
     new = "demand(not any(turned(name, it) for it in pairs), Reason.DuplicateLabel"
     yield from compared("DuplicateLabel", old, new, LABELS, BYTES)
@@ -117,7 +113,7 @@ def list_ends():
     old = "OPERATIONS[kind] in key.operations)\n"
     yield from lists("key_ops of the key that is chosen", old, "OPERATIONS[kind] in turned(key.operations))\n", CHOICES, 1, 2, 8)
     old = "OPERATIONS[kind] not in key.operations:"
-    yield from lists("key_ops of keys --for-message", old, "OPERATIONS[kind] not in turned(key.operations):", ("commands",), 1, 2)
+    yield from lists("key_ops of keys --for-message", old, "OPERATIONS[kind] not in turned(key.operations):", ("commands",), 1, 2, source=PROGRAM)
     old = "reading.MAC_CREATE in key.operations"
     yield from lists("key_ops of make", old, old.replace("key.", "turned(key.") + ")", ("made", "commands"), 1, 2, source=PROGRAM)
     old = "and all(map(test, value.children))"
@@ -252,11 +248,6 @@ def date_ends(numbers):
 ALGORITHMS = (4, 5, 6, 7, -7, -35, -36, -9, -51, -52)
 
 
-def left_out(rule, after, words, names, subjects):
-    """A table of the second reading without each of some rows, which are taken away before a line that stands behind it."""
-    return [End(rule, f"without {name}", ((after, f"{words.format(name)}\n{after}"),), subjects) for name in names]
-
-
 def table_ends():
     after = '\nOPERATIONS = {"mac0"'
     yield from left_out("the algorithms", after, "\nALGORITHMS.pop({})", ALGORITHMS, ("algorithms", *CHOICES))
@@ -306,7 +297,7 @@ def number_table_ends():
     old, new = "return SIMPLE_VALUES.get(item.argument,", "return SIMPLE_VALUES.get(-1 if item.argument == {} else item.argument,"
     yield from skipped("show --diagnostic: a simple value", range(20, 24), old, new, ("commands",), PROGRAM)
     for name in ("algorithm", "type", "curve", "key_ops"):
-        yield End("keys --for-message: what a key fails", name, ((f'return "{name}"', 'return "kid"'),), ("commands",))
+        yield End("keys --for-message: what a key fails", name, ((f'return "{name}"', 'return "kid"'),), ("commands",), None, PROGRAM)
 
 
 # ---- limits
@@ -391,7 +382,7 @@ def order_ends():
         name = next(it for it in reversed(lines[:at]) if it.startswith("def ")).split("(")[0][4:]
         first, second = (re.search(r"(?:Reason\.|, )(\w+), [^,]+$", it).group(1) for it in (one, other))
         if (name, first, second) not in APART:
-            subjects = (*MESSAGES, "sets", "keys", "okp_keys", "claims", "items", "choices", "further_choices")
+            subjects = (*MESSAGES, "sets", "keys", "okp_keys", "claims", "items", "choices", "further_choices", "further_messages")
             yield End(f"{name}: {first} before {second}", "both at once", ((f"{one}\n{other}", f"{other}\n{one}"),), subjects)
     yield from claim_orders(SOURCES[READING])
     yield from message_orders()
@@ -690,59 +681,6 @@ def auto_ends(ends):
     for it in (0x21, 0x2A, 0x2C, 0x2E, 0x3A, 0x3D, 0x40, 0x5B, 0x5E, 0x60, 0x7B, 0x80, 0x84, 0x85, 0xA0, 0xD1, 0xD2, 0xD8, 0xDF):
         turned = f"if not data or data[0] != {it} and data[0] not in BLANKS and data[0] not in BASE64URL:"
         yield ends("auto", f"{it} begins a text", old, turned)
-
-
-# ---- OKP keys, and the algorithms that are left to the caller
-
-
-def further_ends():
-    keys, choices = ("okp_keys",), ("further_choices",)
-    old = "(None in (key.kid, asked) or key.kid == asked)"
-    yield from compared("kid of the OKP key that is chosen", old, old.replace("key.kid == asked", "turned(key.kid, asked)"), choices, BYTES)
-    old = "    for key in keys:\n        with_alg"
-    yield from compared("the OKP keys of a set", old, old.replace("in keys", "in turned(keys)"), choices, first_items(1, 8, 15, 255))
-    old = "VERIFY in key.operations)"
-    yield from compared("key_ops of the OKP key that is chosen", old, "VERIFY in turned(key.operations))", choices, first_items(1, 2, 8))
-    for label, rule in ("inside", "alg of the protected header"), ("outside", "alg of the unprotected header"):
-        old = "    stated = outside if inside is None else inside\n"
-        yield from compared(f"the algorithms that are left to the caller: {rule}", old, f"    {label} = turned({label})\n{old}", choices, NUMBERS)
-    old = "return Key(OKP, content_of(pairs, 2), name_of(pairs, 3), operations, curve"
-    yield from compared("alg of an OKP key", old, old.replace("name_of(pairs, 3)", "turned(name_of(pairs, 3))"), keys, NUMBERS)
-    yield from compared("kty of an OKP key", "name_of(pairs, 1) == OKP", "turned(name_of(pairs, 1)) == OKP", keys, NUMBERS)
-    yield from compared("crv of an OKP key", "number = curve.integer()", "number = turned(curve.integer())", keys, NUMBERS)
-    old = "[it.integer() for it in listed]"
-    yield from compared("key_ops of an OKP key", old, old.replace("it.integer()", "turned(it.integer())"), keys, NUMBERS)
-    yield from compared("the length of x", "x.argument == PUBLIC", "turned(x.argument) == PUBLIC", keys, SIZES[:1])
-    for by in (1, -1):
-        yield End("the length of x", f"{by:+} byte", (("x.argument == PUBLIC", f"x.argument + {by} == PUBLIC"),), keys)
-    yield from further_table_ends(keys, choices)
-
-
-def further_table_ends(keys, choices):
-    after = "\nSIGNATURE_BYTES = {"
-    yield from left_out("the algorithms that are left to the caller", after, "\nFURTHER.pop({})", (-8, -19, -53), ("further", *choices))
-    for alg, curves in (-8, (6,)), (-8, (7,)), (-19, (7,)), (-19, (6, 7)), (-53, (6,)), (-53, (6, 7)):
-        edits = ((after, f"\nFURTHER[{alg}] = {curves}\n{after}"),)
-        yield End("the algorithms that are left to the caller", f"curves {curves} of {alg}", edits, ("further", *choices))
-    after = "\n\ndef okp_key_of(item):"
-    yield from left_out("the curves of OKP keys", after, "\nPUBLIC_KEY_BYTES.pop({})", (6, 7), keys)
-    for curve in (6, 7):
-        edits = (("SIGNATURE_BYTES = {", f"SIGNATURE_BYTES = {{{curve}: 63, **{{it: length for it, length in ((6, 64), (7, 114)) if it != {curve}}}}} or {{"),)
-        yield End("the bytes of a signature", f"on the curve {curve}", edits, keys)
-    for end, old, new in (
-        ("alg of the unprotected header is used", "and key.alg != outside)", "and False)"),
-        ("of a MAC", 'kind == "sign1" and stated in FURTHER', "stated in FURTHER"),
-        ("the key names another algorithm", "and key.alg in (None, with_alg)", ""),
-        ("the first of two keys", "demand(len(fitting) <= 1, Reason.AmbiguousKey, place)", ""),
-        ("NoKey for NoAlg", "Reason.NoAlg if stated is None else", ""),
-        ("NoKey for AlgUnprotected", "Reason.AlgUnprotected if inside is None else", ""),
-        ("a text is no unknown curve", "is_integer_or_text(curve), Reason", "number is not None, Reason"),
-        ("any d", "demand(is_bytes(pairs[-4][1]), Reason.BadValue, pairs[-4][1].place)", "pass"),
-        ("a text for x", "demand(is_bytes(x) and x.argument", "demand(x.major in (BYTES, TEXT) and x.argument"),
-    ):
-        yield End("OKP keys", end, ((old, new),), ("further", *keys, *choices))
-    edits = (("with_alg = key.alg if", "with_alg = key.alg or outside if"), ("and key.alg != outside)", "and key.alg not in (None, outside))"))
-    yield End("OKP keys", "alg of the unprotected header is used where the key names none", edits, choices)
 
 
 def all_ends():

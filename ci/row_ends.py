@@ -83,6 +83,16 @@ def first_items(*counts):
     return [(f"the first {count} of the list alone", lambda it, count=count: it[:count]) for count in counts]
 
 
+def compared(rule, old, new, subjects, kinds, source=READING):
+    """The ends of a comparison: a line of the second reading, and the same line with `turned`."""
+    return [End(rule, end, ((old, new),), subjects, turned, source) for end, turned in kinds]
+
+
+def left_out(rule, after, words, names, subjects):
+    """A table of the second reading without each of some rows, which are taken away before a line that stands behind it."""
+    return [End(rule, f"without {name}", ((after, f"{words.format(name)}\n{after}"),), subjects) for name in names]
+
+
 # ---- copies of the second reading
 
 

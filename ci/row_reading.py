@@ -215,24 +215,18 @@ def further_choices(reading, _program, group, test):
 
 def further_messages(reading, _program, group, test):
     context = context_of(reading, group, with_keys=False)
+    context.keys = reading.read_okp_keys(bytes.fromhex(group["keys"]))
     if "payload" in test:
         context.payload = bytes.fromhex(test["payload"])
         context.payload_length = len(context.payload)
     data = bytes.fromhex(test["message"])
-    kind, protected, unprotected, protected_bytes, place = reading.read_headers(data, context)
-    keys = reading.read_okp_keys(bytes.fromhex(group["keys"]))
-    key, alg = reading.choose_further_key(keys, kind, protected, unprotected, place)
-    payload, auth_place = reading.read_payload(data, place, context)
-    auth, taken = reading.read_string(data, auth_place, lambda it: it <= reading.SHOWN_AUTH_LIMIT, reading.Reason.BadAuthLength)
-    reading.demand(len(auth) == reading.SIGNATURE_BYTES[key.curve], reading.Reason.BadAuthLength, auth_place)
-    signed = reading.structure(kind, protected_bytes, context.aad, payload)
-    asked = key.x.hex(), signed.hex(), auth.hex()
-    if asked != tuple(test.get(name) for name in ("x", "structure", "signature")):
-        raise AssertionError(f"asked of {asked}")
-    reading.demand(test["holds"], reading.Reason.BadAuth, auth_place)
-    reading.demand(taken == len(data), reading.Reason.Trailing, taken)
-    before = next(before for before, usable_key in enumerate(keys) if usable_key is key)
-    return {"verdict": "authentic", "alg": alg, "index": before, "payload": payload.hex()}
+    message = reading.read_further_message(data, context)
+    asked = [it.hex() for it in reading.asked_of_caller(message, context.aad)]
+    if asked != [test.get(name) for name in ("x", "structure", "signature")]:
+        return {"verdict": "asked", "of": asked}
+    reading.check_further(message, test["holds"], len(data))
+    before = next(before for before, usable_key in enumerate(context.keys) if usable_key is message.key)
+    return {"verdict": "authentic", "alg": message.alg, "index": before, "payload": message.payload.hex()}
 
 
 def spelled(reading, value, is_hex=False):

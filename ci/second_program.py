@@ -405,6 +405,23 @@ def keys(options, data):
     return printed([*lines, count])
 
 
+def failed_condition(key, headers):
+    """The first condition that a key fails to fit these headers, or nothing."""
+    kind, protected, unprotected = headers[:3]
+    inside, outside = reading.name_of(protected, reading.ALG), reading.name_of(unprotected, reading.ALG)
+    used = key.alg if inside is None else inside
+    if not reading.is_of_kind(used, kind) or key.alg not in (None, used) or (inside is None and outside not in (None, used)):
+        return "algorithm"
+    if reading.ALGORITHMS[used].key_type != key.type:
+        return "type"
+    if reading.ALGORITHMS[used].curve != key.curve:
+        return "curve"
+    if key.operations is not None and reading.OPERATIONS[kind] not in key.operations:
+        return "key_ops"
+    kid = reading.content_of(protected | unprotected, reading.KID)
+    return "" if None in (key.kid, kid) or key.kid == kid else "kid"
+
+
 def words_of(key, asked):
     """What the line of an item says of a usable key, for the headers of a message where there are any, or of a refusal."""
     if isinstance(key, Refused):
@@ -421,7 +438,7 @@ def words_of(key, asked):
         words.append(f"ops {listed}".strip())
     words.append("usable")
     if asked is not None:
-        failed = reading.failed_condition(key, asked)
+        failed = failed_condition(key, asked)
         words.append(f"fails {failed}" if failed else "fits")
     return " ".join(words)
 

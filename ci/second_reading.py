@@ -591,23 +591,6 @@ def read_headers(data, context):
     return kind, protected, unprotected, protected_bytes, item.end
 
 
-def failed_condition(key, headers):
-    """The first condition that a key fails to fit these headers, or nothing."""
-    kind, protected, unprotected = headers[:3]
-    inside, outside = name_of(protected, ALG), name_of(unprotected, ALG)
-    used = key.alg if inside is None else inside
-    if not is_of_kind(used, kind) or key.alg not in (None, used) or (inside is None and outside not in (None, used)):
-        return "algorithm"
-    if ALGORITHMS[used].key_type != key.type:
-        return "type"
-    if ALGORITHMS[used].curve != key.curve:
-        return "curve"
-    if key.operations is not None and OPERATIONS[kind] not in key.operations:
-        return "key_ops"
-    kid = content_of(protected | unprotected, KID)
-    return "" if None in (key.kid, kid) or key.kid == kid else "kid"
-
-
 def read_message(data, context):
     """The message that some bytes begin with, up to its last byte, which is before the comparison."""
     kind, protected, unprotected, protected_bytes, place = read_headers(data, context)
@@ -618,6 +601,22 @@ def read_message(data, context):
     lengths = range(SHOWN_AUTH_LIMIT + 1) if alg is None else [ALGORITHMS[alg].auth_length]
     auth, taken = read_string(data, auth_place, lambda it: it in lengths, Reason.BadAuthLength)
     return Message(kind, protected, unprotected, protected_bytes, payload, auth, auth_place, taken, key, alg)
+
+
+def read_further_message(data, context):
+    """The message that some bytes begin with, whose signature is left to the caller: the keys of the context are of the type OKP."""
+    kind, protected, unprotected, protected_bytes, place = read_headers(data, context)
+    key, alg = choose_further_key(context.keys, kind, protected, unprotected, place)
+    payload, auth_place = read_payload(data, place, context)
+    auth, taken = read_string(data, auth_place, lambda it: it <= SHOWN_AUTH_LIMIT, Reason.BadAuthLength)
+    demand(len(auth) == SIGNATURE_BYTES[key.curve], Reason.BadAuthLength, auth_place)
+    return Message(kind, protected, unprotected, protected_bytes, payload, auth, auth_place, taken, key, alg)
+
+
+def check_further(message, holds, count):
+    """Refuses a message whose signature isn't good, or that isn't all of so many bytes."""
+    demand(holds, Reason.BadAuth, message.auth_place)
+    demand(message.taken == count, Reason.Trailing, message.taken)
 
 
 def structure_front(kind, protected_bytes, aad, length):
@@ -643,6 +642,11 @@ def digest_of(alg, content):
 def signed_digest(message, aad):
     """The digest of a message's Sig_structure."""
     return digest_of(message.alg, structure(message.kind, message.protected_bytes, aad, message.payload))
+
+
+def asked_of_caller(message, aad):
+    """What a verifier of EdDSA is asked, which hashes by itself: the public key, the structure and the signature (RFC 8032 section 5.1.7)."""
+    return message.key.x, structure(message.kind, message.protected_bytes, aad, message.payload), message.auth
 
 
 def vouch_word(message, aad):

@@ -11,8 +11,8 @@
  *   - Bytes don't change while a call reads them.
  *   - A block (of a verifier, a table, a maker or a signer) has the size and the alignment that its functions return, is begun once
  *     before anything else, and isn't copied. One call at a time uses it.
- *   - The keys and the external data of cose_open and the other calls that open, and the keys of cose_table_read, stay as they are until
- *     the next such call of that block, or until its last use.
+ *   - The keys and the external data of cose_open and the other calls that open, and those of cose_table_read and cose_table_read_under,
+ *     stay as they are until the next such call of that block, or until its last use.
  *   - A payload isn't used before its message is authentic.
  *
  * Every place is the number of bytes before a byte: of the message, of the key set, or, of claims, of the payload. Every range (.._at,
@@ -410,6 +410,11 @@ struct cose_large_verifier {
     COSE_SLOT_(uint8_t *at);
 };
 
+/** The same for headers of 256 bytes that nest 4 deep: for devices of little memory. */
+struct cose_device_verifier {
+    COSE_SLOT_(uint8_t *at);
+};
+
 /** What came of a piece: how many of its bytes were used, and which of them are of the payload. */
 struct cose_fed {
     struct cose_status status;
@@ -449,6 +454,7 @@ COSE_ASSERT_(sizeof(struct cose_eddsa_input) == 96 && offsetof(struct cose_eddsa
 COSE_ASSERT_(sizeof(struct cose_pieces) == 56 && offsetof(struct cose_pieces, payload_head) == 42, "struct cose_pieces");
 COSE_ASSERT_(sizeof(struct cose_chosen_key) == 72 && offsetof(struct cose_chosen_key, y_length) == 64, "struct cose_chosen_key");
 COSE_ASSERT_(sizeof(struct cose_received_signature) == 144 && offsetof(struct cose_received_signature, signature) == 8, "struct cose_received_signature");
+COSE_ASSERT_(sizeof(struct cose_device_verifier) == 8 && offsetof(struct cose_device_verifier, at) == 0, "struct cose_device_verifier");
 COSE_ASSERT_(sizeof(struct cose_large_verifier) == 8 && offsetof(struct cose_large_verifier, at) == 0, "struct cose_large_verifier");
 COSE_ASSERT_(sizeof(struct cose_maker) == 8 && offsetof(struct cose_maker, at) == 0, "struct cose_maker");
 COSE_ASSERT_(sizeof(struct cose_signer) == 8 && offsetof(struct cose_signer, at) == 0, "struct cose_signer");
@@ -534,6 +540,7 @@ enum {
     COSE_BLOCK_ALIGN = 16,
     COSE_VERIFIER_BLOCK = 4096,
     COSE_LARGE_VERIFIER_BLOCK = 135168,
+    COSE_DEVICE_VERIFIER_BLOCK = 1760,
     COSE_TABLE_BLOCK = 16384,
     COSE_MAKER_BLOCK = 1024,
     COSE_SIGNER_BLOCK = 1024
@@ -1295,28 +1302,36 @@ static inline void cose_header_named(struct cose_verifier *verifier, uint32_t is
 }
 
 #if UINTPTR_MAX <= 0xffffffff && defined COSE_NO_SHA512
+/* The headers of a message of each algorithm that needs the function that is left out, without the key's identifier: 6 and 7 of a
+ * COSE_Mac0, which have 7 bytes, and -35, -36, -51 and -52 of a COSE_Sign1. */
+enum { COSE_PROBED_ = 6 };
+static const uint8_t cose_probed_[COSE_PROBED_][8] = {
+    {0xd1, 0x84, 0x43, 0xa1, 0x01, 0x06, 0xa0},
+    {0xd1, 0x84, 0x43, 0xa1, 0x01, 0x07, 0xa0},
+    {0xd2, 0x84, 0x44, 0xa1, 0x01, 0x38, 0x22, 0xa0},
+    {0xd2, 0x84, 0x44, 0xa1, 0x01, 0x38, 0x23, 0xa0},
+    {0xd2, 0x84, 0x44, 0xa1, 0x01, 0x38, 0x32, 0xa0},
+    {0xd2, 0x84, 0x44, 0xa1, 0x01, 0x38, 0x33, 0xa0},
+};
+
+/* Without an identifier more than one key may fit, of which a message may name one. */
+static inline uint8_t cose_may_need_(const struct cose_fed *fed)
+{
+    return fed->status.status != COSE_REFUSED || fed->status.reason == COSE_REASON_AMBIGUOUS_KEY;
+}
+
 /** Whether a message under the keys of a verifier may get to the function that is left out: 0 where each that names such an algorithm is
  * refused before it is hashed. The verifier is fed the headers of one of each algorithm, without the key's identifier, and is reset. */
 COSE_MUST_USE_
 static inline int cose_needs_sha512(struct cose_verifier *verifier)
 {
-    /* 6 and 7 of a COSE_Mac0, and -35, -36, -51 and -52 of a COSE_Sign1 */
-    static const uint8_t headers[][8] = {
-        {0xd1, 0x84, 0x43, 0xa1, 0x01, 0x06, 0xa0},
-        {0xd1, 0x84, 0x43, 0xa1, 0x01, 0x07, 0xa0},
-        {0xd2, 0x84, 0x44, 0xa1, 0x01, 0x38, 0x22, 0xa0},
-        {0xd2, 0x84, 0x44, 0xa1, 0x01, 0x38, 0x23, 0xa0},
-        {0xd2, 0x84, 0x44, 0xa1, 0x01, 0x38, 0x32, 0xa0},
-        {0xd2, 0x84, 0x44, 0xa1, 0x01, 0x38, 0x33, 0xa0},
-    };
     struct cose_fed fed;
     uint8_t needs = 0;
     cose_probes_ = 1;
-    for (size_t each = 0; each < sizeof headers / sizeof *headers; each++) {
+    for (size_t each = 0; each < COSE_PROBED_; each++) {
         cose_reset(verifier);
-        cose_feed(verifier, headers[each], each < 2 ? 7 : 8, &fed);
-        /* without an identifier more than one key may fit, of which a message may name one */
-        needs |= fed.status.status != COSE_REFUSED || fed.status.reason == COSE_REASON_AMBIGUOUS_KEY;
+        cose_feed(verifier, cose_probed_[each], each < 2 ? 7 : 8, &fed);
+        needs |= cose_may_need_(&fed);
     }
     cose_reset(verifier);
     cose_probes_ = 0;
@@ -1504,6 +1519,133 @@ static inline void cose_large_header_named(struct cose_large_verifier *verifier,
     }
     cose_edge_large_header_named(verifier, is_protected, cose_slice_(name), name_length, cose_room_(into), into_room, item);
 }
+
+/* ---- The same for headers of 256 bytes that nest 4 deep, on devices of little memory. It takes no terms: each key of the set may be used. */
+
+/** How many bytes its block has. */
+COSE_MUST_USE_
+uint64_t cose_device_verifier_size(void);
+
+/** What the address of its block is a multiple of. */
+COSE_MUST_USE_
+uint64_t cose_device_verifier_align(void);
+
+/** Makes the block a verifier without keys. Once, before anything else. */
+void cose_device_begin(uint8_t *block);
+
+void cose_edge_device_open(struct cose_device_verifier *verifier, const uint8_t *keys, uint64_t keys_length, const uint8_t *aad,
+    uint64_t aad_length, uint8_t kind, struct cose_status *status);
+
+/** Gives it the keys and the externally supplied data of the next messages: COSE_MORE, or why there are none. */
+static inline void cose_device_open(struct cose_device_verifier *verifier, const uint8_t *keys, size_t keys_length, const uint8_t *aad,
+    size_t aad_length, enum cose_kind_number kind, struct cose_status *status)
+{
+    if (cose_is_null_(keys, keys_length) || cose_is_null_(aad, aad_length)) {
+        cose_edge_device_open(verifier, cose_slice_(NULL), 0, cose_slice_(NULL), 0, COSE_NO_KIND_, status);
+        return;
+    }
+    cose_edge_device_open(verifier, cose_slice_(keys), keys_length, cose_slice_(aad), aad_length, cose_kind_(kind), status);
+}
+
+void cose_edge_device_open_detached(struct cose_device_verifier *verifier, const uint8_t *keys, uint64_t keys_length, const uint8_t *aad,
+    uint64_t aad_length, uint8_t kind, uint64_t payload_length, struct cose_status *status);
+
+/** The same for messages whose payload is detached, and has so many bytes. */
+static inline void cose_device_open_detached(struct cose_device_verifier *verifier, const uint8_t *keys, size_t keys_length,
+    const uint8_t *aad, size_t aad_length, enum cose_kind_number kind, uint64_t payload_length, struct cose_status *status)
+{
+    if (cose_is_null_(keys, keys_length) || cose_is_null_(aad, aad_length)) {
+        cose_edge_device_open_detached(verifier, cose_slice_(NULL), 0, cose_slice_(NULL), 0, COSE_NO_KIND_, 0, status);
+        return;
+    }
+    cose_edge_device_open_detached(verifier, cose_slice_(keys), keys_length, cose_slice_(aad), aad_length, cose_kind_(kind),
+        payload_length, status);
+}
+
+void cose_edge_device_feed(struct cose_device_verifier *verifier, const uint8_t *piece, uint64_t piece_length, struct cose_fed *fed);
+
+/** Takes the next bytes of the message: the fewest that settle it, or all of the piece. */
+static inline void cose_device_feed(struct cose_device_verifier *verifier, const uint8_t *piece, size_t piece_length,
+    struct cose_fed *fed)
+{
+    if (cose_is_null_(piece, piece_length)) {
+        memset(fed, 0, sizeof *fed);
+        fed->status.status = COSE_BAD_ARGUMENT;
+        return;
+    }
+    cose_edge_device_feed(verifier, cose_slice_(piece), piece_length, fed);
+}
+
+/** How many bytes of the message are to come for certain. */
+COSE_MUST_USE_
+uint64_t cose_device_wanted(struct cose_device_verifier *verifier);
+
+/** How many bytes of a detached payload are wanted. */
+COSE_MUST_USE_
+uint64_t cose_device_payload_wanted(struct cose_device_verifier *verifier);
+
+COSE_MUST_USE_
+uint64_t cose_edge_device_feed_payload(struct cose_device_verifier *verifier, const uint8_t *piece, uint64_t piece_length);
+
+/** Takes the next bytes of a detached payload, and returns how many it used. */
+COSE_MUST_USE_
+static inline uint64_t cose_device_feed_payload(struct cose_device_verifier *verifier, const uint8_t *piece, size_t piece_length)
+{
+    if (cose_is_null_(piece, piece_length)) {
+        return 0;
+    }
+    return cose_edge_device_feed_payload(verifier, cose_slice_(piece), piece_length);
+}
+
+/** Says that no byte follows: a message that isn't settled is refused (COSE_REASON_TRUNCATED). */
+void cose_device_end(struct cose_device_verifier *verifier, struct cose_status *status);
+
+/** What the signature of a message that is complete is verified with: 1 where it has one, and otherwise 0. */
+COSE_MUST_USE_
+uint8_t cose_device_sign_input(struct cose_device_verifier *verifier, struct cose_signature_input *input);
+
+/** The verdict on a message that is complete. 1 says that the signature of cose_device_sign_input is good, as EVP_PKEY_verify returns; any
+ * other number that it isn't. For a COSE_Mac0 the number doesn't count. */
+void cose_device_verdict(struct cose_device_verifier *verifier, int32_t signature_is_good, struct cose_message_verdict *verdict);
+
+/** The number of the message: opening and resetting begin another one. */
+COSE_MUST_USE_
+uint64_t cose_device_message_number(struct cose_device_verifier *verifier);
+
+/** The verdict on the message of this number, as cose_device_verdict gives it: 1 is of the signature of this message alone. Where the
+ * verifier has gone on to another message, as a callback or another thread may make it, the answer is COSE_BAD_ARGUMENT, and nothing changes. */
+void cose_device_verdict_for(struct cose_device_verifier *verifier, uint64_t message, int32_t signature_is_good,
+    struct cose_message_verdict *verdict);
+
+/** Begins the next message, under the same keys. */
+void cose_device_reset(struct cose_device_verifier *verifier);
+
+/** How many bytes of the message were taken. */
+COSE_MUST_USE_
+uint64_t cose_device_taken(struct cose_device_verifier *verifier);
+
+/** How many bytes of it are held, and 256 for the running hash. */
+COSE_MUST_USE_
+uint64_t cose_device_held(struct cose_device_verifier *verifier);
+
+#if UINTPTR_MAX <= 0xffffffff && defined COSE_NO_SHA512
+/** The same as cose_needs_sha512. */
+COSE_MUST_USE_
+static inline int cose_device_needs_sha512(struct cose_device_verifier *verifier)
+{
+    struct cose_fed fed;
+    uint8_t needs = 0;
+    cose_probes_ = 1;
+    for (size_t each = 0; each < COSE_PROBED_; each++) {
+        cose_device_reset(verifier);
+        cose_device_feed(verifier, cose_probed_[each], each < 2 ? 7 : 8, &fed);
+        needs |= cose_may_need_(&fed);
+    }
+    cose_device_reset(verifier);
+    cose_probes_ = 0;
+    return needs;
+}
+#endif
 
 /* ---- A verifier whose message the caller authenticates, since it has the hash or the key. */
 
@@ -1785,6 +1927,64 @@ static inline void cose_table_verify_cwt(struct cose_table *table, const uint8_t
     cose_edge_table_verify_cwt(table, cose_slice_(aad), aad_length, &cose_policy_, cose_slice_(token), token_length, claims);
 }
 
+void cose_edge_table_read_under(struct cose_table *table, const struct cose_terms *terms, struct cose_key_set *key_set);
+
+/** Reads the keys that terms permit, each once, and keeps what the terms state besides. Their size, flags, kind and lengths are judged as
+ * those of cose_authenticate are. The struct isn't used any more, the keys and the external data that it names are. */
+static inline void cose_table_read_under(struct cose_table *table, const struct cose_terms *terms, struct cose_key_set *key_set)
+{
+    struct cose_terms cose_terms_ = *terms;
+    if (cose_is_null_(terms->keys, terms->keys_length) || cose_is_null_(terms->aad, terms->aad_length)) {
+        cose_terms_.size = 0;
+        cose_terms_.keys = cose_slice_(NULL);
+        cose_terms_.keys_length = 0;
+        cose_terms_.aad = cose_slice_(NULL);
+        cose_terms_.aad_length = 0;
+        cose_edge_table_read_under(table, &cose_terms_, key_set);
+        return;
+    }
+    cose_terms_.keys = cose_slice_(terms->keys);
+    cose_terms_.aad = cose_slice_(terms->aad);
+    cose_edge_table_read_under(table, &cose_terms_, key_set);
+}
+
+void cose_edge_table_authenticate(struct cose_table *table, const uint8_t *message, uint64_t message_length,
+    struct cose_message_verdict *verdict, struct cose_signature_input *input);
+
+/** As cose_authenticate, under the terms of the table: COSE_CLOSED where it wasn't read under terms. */
+static inline void cose_table_authenticate(struct cose_table *table, const uint8_t *message, size_t message_length,
+    struct cose_message_verdict *verdict, struct cose_signature_input *input)
+{
+    if (cose_is_null_(message, message_length)) {
+        memset(verdict, 0, sizeof *verdict);
+        verdict->status = COSE_BAD_ARGUMENT;
+        return;
+    }
+    cose_edge_table_authenticate(table, cose_slice_(message), message_length, verdict, input);
+}
+
+void cose_edge_table_admit(struct cose_table *table, const struct cose_requirements *requirements, const uint8_t *token,
+    uint64_t token_length, struct cose_claims_set *claims);
+
+/** As cose_admit, under the terms of the table. */
+static inline void cose_table_admit(struct cose_table *table, const struct cose_requirements *requirements, const uint8_t *token,
+    size_t token_length, struct cose_claims_set *claims)
+{
+    struct cose_requirements cose_requirements_ = *requirements;
+    if (cose_is_null_(requirements->iss, requirements->iss_length) ||
+        cose_is_null_(requirements->sub, requirements->sub_length) ||
+        cose_is_null_(requirements->aud, requirements->aud_length) ||
+        cose_is_null_(token, token_length)) {
+        memset(claims, 0, sizeof *claims);
+        claims->status = COSE_BAD_ARGUMENT;
+        return;
+    }
+    cose_requirements_.iss = cose_slice_(requirements->iss);
+    cose_requirements_.sub = cose_slice_(requirements->sub);
+    cose_requirements_.aud = cose_slice_(requirements->aud);
+    cose_edge_table_admit(table, &cose_requirements_, cose_slice_(token), token_length, claims);
+}
+
 /* ---- Making a COSE_Mac0 (RFC 9052 section 6.2) over pieces: head, the pieces and tail are the message. */
 
 /** How many bytes its block has. */
@@ -1926,6 +2126,7 @@ static inline int cose_fits(void)
     return cose_version() == COSE_VERSION &&
         cose_verifier_size() <= COSE_VERIFIER_BLOCK && cose_verifier_align() <= COSE_BLOCK_ALIGN &&
         cose_large_verifier_size() <= COSE_LARGE_VERIFIER_BLOCK && cose_large_verifier_align() <= COSE_BLOCK_ALIGN &&
+        cose_device_verifier_size() <= COSE_DEVICE_VERIFIER_BLOCK && cose_device_verifier_align() <= COSE_BLOCK_ALIGN &&
         cose_table_size() <= COSE_TABLE_BLOCK && cose_table_align() <= COSE_BLOCK_ALIGN &&
         cose_maker_size() <= COSE_MAKER_BLOCK && cose_maker_align() <= COSE_BLOCK_ALIGN &&
         cose_signer_size() <= COSE_SIGNER_BLOCK && cose_signer_align() <= COSE_BLOCK_ALIGN;
@@ -1955,6 +2156,13 @@ static inline void cose_large_wipe(struct cose_large_verifier *verifier)
 {
     cose_edge_wipe_bytes(verifier->at, cose_large_verifier_size());
     cose_large_begin(verifier->at);
+}
+
+/** of one for devices, */
+static inline void cose_device_wipe(struct cose_device_verifier *verifier)
+{
+    cose_edge_wipe_bytes(verifier->at, cose_device_verifier_size());
+    cose_device_begin(verifier->at);
 }
 
 /** of a table, */

@@ -31,6 +31,10 @@ function wordsOf(request, answer) {
         const sentence = picture.isDetached ? `The payload of this ${kind} is detached.` : `This is a ${kind} with a payload of ${bytesCount(answer.payloadLength)}.`;
         return { tone: "unknown", title: "Not verified: there is no key", sentences: [sentence, "Anybody may have made it."] };
     }
+    if (answer.state === "not verified") {
+        const name = EDDSA_CURVES[/** @type {keyof typeof EDDSA_CURVES} */ (answer.crv)];
+        return { tone: "unknown", title: `Not verified: it is signed by ${name}`, sentences: ["This browser verifies no such signature.", "Anybody may have made it."] };
+    }
     return authenticWords(request, answer, kind);
 }
 
@@ -46,7 +50,7 @@ function refusedWords(request, answer, refusal) {
     if (!request.keys) sentences.push("No key was looked at.");
     if (answer.keys.some((it) => it.state === "left out")) sentences.push("One that would isn't allowed by what is stated of keys.");
     const phase = phaseOf(refusal, picture);
-    const where = refusal.reason === TRAILING ? "after phase 13" : `phase ${phase} of 13: ${PHASES[phase - 1]}`;
+    const where = refusal.reason === TRAILING ? "after its last byte" : `phase ${phase} of 13: ${PHASES[phase - 1]}`;
     return {
         tone: "bad",
         title: `Refused: ${clause}`,
@@ -119,14 +123,24 @@ function admittedText({ exp, aud }, now) {
 function showPhases(host, answer) {
     const isRefused = answer.state === "refused" && answer.refusal && answer.refusal.reason !== TRAILING;
     const stop = isRefused && answer.refusal ? phaseOf(answer.refusal, answer.picture) : 14;
-    const isVerified = answer.state === "authentic" || answer.state === "refused";
+    const isVerified = answer.state === "authentic" || answer.state === "refused" || answer.state === "not verified";
     const rows = PHASES.map((text, index) => {
         const phase = index + 1;
-        const isAsked = isVerified || (answer.state === "no keys" && phase !== 8 && phase !== 13 && !(answer.picture.isDetached && phase > 9));
+        const isKnown = isVerified && (phase !== 13 || isDecided(answer));
+        const isAsked = isKnown || (answer.state === "no keys" && phase !== 8 && phase !== 13 && !(answer.picture.isDetached && phase > 9));
         const state = phase === stop ? "refused" : phase < stop && isAsked ? "passed" : "not reached";
         return element("li", { "data-state": state }, element("span", { class: "text" }, text), element("span", { class: "state" }, state));
     });
     host.replaceChildren(...rows);
+}
+
+/**
+ * Whether the last phase has an answer: of a message that something follows, and of a signature that this browser can't verify, it has none.
+ * @param {Answer} answer
+ */
+function isDecided({ state, refusal, picture, isSignatureGood }) {
+    if (state === "not verified") return false;
+    return refusal?.reason !== TRAILING || picture.kind !== 18 || isSignatureGood !== undefined;
 }
 
 /** @param {string} text */

@@ -1,5 +1,5 @@
 // Examples: messages and tokens, with keys. Those of RFC 9052 and RFC 8392 are the standards' own; `openssl` signed the firmware,
-// the health certificate and the attestation, whose private keys nobody has kept.
+// the health certificate and the attestation, whose private keys nobody has kept, and Python's `cryptography` the message by Ed25519.
 "use strict";
 
 /**
@@ -40,6 +40,16 @@ const EXAMPLES = [
             "a50102024231312001215820bac5b11cad8f99f9c72b05cf4b9e26d244dc189f745228255a219a86d6a09eff22582020138b",
             "f82dc1b6d562be0fa54ab7804a3a64b6d72ccfed6b6fb6ed28bbfc117e",
         ].join(""),
+        now: "",
+    },
+    {
+        name: "Ed25519",
+        about: "A signature by Ed25519 under the first key of RFC 8032 section 7.1, which this browser verifies, if it has Ed25519.",
+        message: [
+            "d28443a10132a10442313154546869732069732074686520636f6e74656e742e5840d492f52368492eefde152b706cced7c2",
+            "57bade0d041020909154f68b9b375ccc058a5ebf6da9e526a7e56abdfdefce6f73dc08fb4bd7667e471986c12f81c705",
+        ].join(""),
+        keys: "a501010242313103322006215820d75a980182b10ab7d54bfed3c964073a0ee172f3daa62325af021a68f707511a",
         now: "",
     },
     {

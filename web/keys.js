@@ -81,6 +81,10 @@ function elementsOf(bytes) {
 }
 
 const [SEQUENCE, BIT_STRING, IDENTIFIER] = [0x30, 3, 6];
+/** The bytes of a coordinate, or of a public key of EdDSA, by the number of the curve (RFC 9053 section 7.1, RFC 8032 sections 5.1.5 and 5.2.5). */
+const KEY_BYTES = new Map([[1, 32], [2, 48], [3, 66], [6, 32], [7, 57]]);
+/** The curves of EdDSA by their identifiers (RFC 8410 section 3). */
+const OKP_IDENTIFIERS = new Map([["2b6570", 6], ["2b6571", 7]]);
 const EC_PUBLIC_KEY = "2a8648ce3d0201";
 const CURVE_IDENTIFIERS = new Map([
     ["2a8648ce3d030107", 1],
@@ -89,19 +93,31 @@ const CURVE_IDENTIFIERS = new Map([
 ]);
 
 /**
- * The COSE_Key of a SubjectPublicKeyInfo (RFC 5480 section 2).
+ * The COSE_Key of a SubjectPublicKeyInfo: of ECDSA (RFC 5480 section 2), or of EdDSA, which has no parameters (RFC 8410 section 3).
  * @param {Uint8Array} der
  */
 function keyOfInfo(der) {
     const outer = elementOf(der);
     const [algorithm, bits, ...others] = elementsOf(outer.content);
     const [kind, curve, ...more] = algorithm?.tag === SEQUENCE ? elementsOf(algorithm.content) : [];
-    const isWhole = outer.tag === SEQUENCE && !outer.rest.length && !others.length && !more.length;
-    const isPoint = kind?.tag === IDENTIFIER && hexOf(kind.content) === EC_PUBLIC_KEY && curve?.tag === IDENTIFIER;
-    if (!isWhole || !isPoint || bits?.tag !== BIT_STRING || bits.content[0] !== 0) throw new BadInput("The PEM block isn't a public key on an elliptic curve.");
+    const isInfo = outer.tag === SEQUENCE && !outer.rest.length && !others.length && !more.length && kind?.tag === IDENTIFIER;
+    const isWhole = isInfo && bits?.tag === BIT_STRING && bits.content[0] === 0;
+    const octets = isWhole && !curve ? OKP_IDENTIFIERS.get(hexOf(kind.content)) : undefined;
+    if (octets) return keyOfOctets(octets, bits.content.slice(1));
+    const isPoint = isWhole && hexOf(kind.content) === EC_PUBLIC_KEY && curve?.tag === IDENTIFIER;
+    if (!isPoint) throw new BadInput("The PEM block isn't a public key of ECDSA or EdDSA.");
     const crv = CURVE_IDENTIFIERS.get(hexOf(curve.content));
     if (!crv) throw new BadInput("The key's curve isn't P-256, P-384 or P-521.");
     return keyOfPoint(crv, bits.content.subarray(1));
+}
+
+/**
+ * @param {number} crv
+ * @param {Uint8Array} x
+ */
+function keyOfOctets(crv, x) {
+    if (x.length !== KEY_BYTES.get(crv)) throw new BadInput("The key hasn't the length of its curve's.");
+    return new Map(/** @type {[number, any][]} */ ([[1, 1], [-1, crv], [-2, x]]));
 }
 
 /**
@@ -146,8 +162,19 @@ function infoOf(der) {
 
 // ---- JWK
 
-const JWK_ALGORITHMS = new Map([["HS256", 5], ["HS384", 6], ["HS512", 7], ["ES256", -7], ["ES384", -35], ["ES512", -36]]);
-const JWK_CURVES = new Map([["P-256", 1], ["P-384", 2], ["P-521", 3]]);
+const JWK_ALGORITHMS = new Map([
+    ...new Map([["HS256", 5], ["HS384", 6], ["HS512", 7], ["ES256", -7], ["ES384", -35], ["ES512", -36]]),
+    ...new Map([["EdDSA", -8], ["Ed25519", -19], ["Ed448", -53]]),
+]);
+/**
+ * The types of JWKs: their numbers in a COSE_Key, and their curves (RFC 7518 section 6, RFC 8037 section 2).
+ * @type {Map<string, {kty: number, curves?: Map<string, number>}>}
+ */
+const JWK_TYPES = new Map([
+    ["oct", { kty: 4 }],
+    ["EC", { kty: 2, curves: new Map([["P-256", 1], ["P-384", 2], ["P-521", 3]]) }],
+    ["OKP", { kty: 1, curves: new Map([["Ed25519", 6], ["Ed448", 7]]) }],
+]);
 const JWK_OPERATIONS = new Map([["sign", 1], ["verify", 2], ["encrypt", 3], ["decrypt", 4], ["wrapKey", 5], ["unwrapKey", 6], ["deriveKey", 7], ["deriveBits", 8]]);
 
 /**
@@ -169,7 +196,7 @@ function member(key, name) {
  */
 function coordinate(key, name, crv) {
     const bytes = member(key, name);
-    const wanted = CURVES[/** @type {1 | 2 | 3} */ (crv)].bytes;
+    const wanted = KEY_BYTES.get(crv);
     if (bytes.length !== wanted) throw new BadInput(`The ${name} of a JWK has ${bytesCount(bytes.length)} in place of ${wanted}.`);
     return bytes;
 }
@@ -180,19 +207,20 @@ function coordinate(key, name, crv) {
  * @returns {Map<number, any> | undefined}
  */
 function keyOfJwk(key) {
-    const crv = JWK_CURVES.get(key.crv);
-    const isSymmetric = key.kty === "oct";
-    if (!isSymmetric && (key.kty !== "EC" || !crv)) return undefined;
+    const type = JWK_TYPES.get(key.kty);
+    const crv = type?.curves?.get(key.crv);
+    if (!type || (type.curves && !crv)) return undefined;
     const alg = key.alg === undefined ? undefined : JWK_ALGORITHMS.get(key.alg);
     if ((key.use ?? "sig") !== "sig" || (key.alg !== undefined && alg === undefined)) return undefined;
-    const made = new Map(/** @type {[number, any][]} */ ([[1, isSymmetric ? 4 : 2]]));
+    const made = new Map(/** @type {[number, any][]} */ ([[1, type.kty]]));
     if (key.kid !== undefined && typeof key.kid !== "string") throw new BadInput("The kid of a JWK is no text.");
     if (key.kid !== undefined) made.set(2, new TextEncoder().encode(key.kid));
     if (alg !== undefined) made.set(3, alg);
-    if (key.key_ops !== undefined) made.set(4, operationsOf(key.key_ops, isSymmetric));
+    if (key.key_ops !== undefined) made.set(4, operationsOf(key.key_ops, !crv));
     if (made.get(4)?.length === 0) return undefined;
-    if (isSymmetric || !crv) return made.set(-1, member(key, "k"));
-    return made.set(-1, crv).set(-2, coordinate(key, "x", crv)).set(-3, coordinate(key, "y", crv));
+    if (!crv) return made.set(-1, member(key, "k"));
+    made.set(-1, crv).set(-2, coordinate(key, "x", crv));
+    return type.kty === 1 ? made : made.set(-3, coordinate(key, "y", crv));
 }
 
 /**
@@ -228,7 +256,7 @@ function keysOfJson(text) {
             throw fault;
         }
     });
-    if (!made.length) throw new BadInput("None of the JWKs is an HMAC key, or an EC key that verifies signatures.");
+    if (!made.length) throw new BadInput("None of the JWKs is an HMAC key, or an EC or OKP key that verifies signatures.");
     return made;
 }
 

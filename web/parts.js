@@ -312,7 +312,7 @@ class Painter {
         this.add(head.end, "auth", 11, name, `A byte string of ${bytesCount(length)}.`);
         const end = Math.min(this.at + length, this.message.length);
         this.picture.auth = { from: this.at, to: end };
-        this.add(end, "auth", 12, `${name}, content`, AUTH_MEANINGS.get(this.picture.kind ?? 0) ?? "What authenticates the message.");
+        this.add(end, "auth", 12, `${name}, content`, authMeaning(this.picture));
         this.goOn(head.end + length, 12);
     }
 }
@@ -327,6 +327,14 @@ const AUTH_MEANINGS = new Map([
     [17, "The MAC of the protected header, the external data and the payload, under the key."],
     [18, "The integers r and s, of the protected header, the external data and the payload, by the private key."],
 ]);
+const EDDSA_MEANING = "The point R and the integer S, of the protected header, the external data and the payload, by the private key.";
+
+/** @param {Picture} picture */
+function authMeaning(picture) {
+    const { kind = 0 } = picture;
+    if (kind === 18 && isEddsa(headerOf(picture, 1))) return EDDSA_MEANING;
+    return AUTH_MEANINGS.get(kind) ?? "What authenticates the message.";
+}
 
 /** The longest payload that is looked at as claims, in bytes. */
 const LONGEST_CLAIMS = 65536;

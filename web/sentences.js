@@ -145,8 +145,11 @@ function noKeyWords({ picture }) {
 /** @param {Refusal} it */
 function unknownAlgorithmWords({ picture }) {
     const alg = headerOf(picture, 1);
+    const name = alg ? algorithmText(alg) : "its algorithm";
+    const { bytes, depth } = EDDSA_LIMITS;
+    if (picture.kind === 18 && isEddsa(alg)) return [`${name} isn't verified with such a header`, `Of a message by EdDSA a header has at most ${bytesCount(bytes)} here, and nests at most ${depth} deep.`];
     const kind = picture.kind === 18 ? "COSE_Sign1" : "COSE_Mac0";
-    return [`${alg ? algorithmText(alg) : "its algorithm"} isn't verified in a ${kind}`, "A MAC by HMAC with SHA-2 and a signature by ECDSA are verified."];
+    return [`${name} isn't verified in a ${kind}`, "A MAC by HMAC with SHA-2, and a signature by ECDSA or Ed25519, are verified."];
 }
 
 /** @type {Readonly<Record<string, string[] | ((it: Refusal) => string[])>>} */
@@ -182,7 +185,7 @@ const SENTENCES = Object.freeze({
     PayloadTooLong: ["its payload is too long"],
     CwtTagAlone: ["this isn't a whole token", "The tag of a CWT has to be followed by that of a message."],
     BadKeySet: ["this isn't a key or a set of keys", "Or the set is empty, or has more keys than this page takes."],
-    UnknownKey: ["no key of this type or curve is used here", "Symmetric keys are, and keys on P-256, P-384 and P-521."],
+    UnknownKey: ["no key of this type or curve is used here", "Symmetric keys are, and keys on P-256, P-384, P-521 and Ed25519."],
     FloatDate: ["a date isn't a whole number"],
     TaggedDate: ["a date has a tag", "In a token it is a number alone."],
     Expired: expiredWords,

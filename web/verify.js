@@ -23,13 +23,14 @@
 /**
  * @typedef {object} Answer
  * @property {Picture} picture
- * @property {"authentic" | "refused" | "keys refused" | "no keys" | "fault"} state
+ * @property {"authentic" | "refused" | "not verified" | "keys refused" | "no keys" | "fault"} state
  * @property {{reason: number, place: number}} [refusal] of the message, or of the keys
  * @property {string} [fault]
  * @property {number} alg
  * @property {number} payloadLength
  * @property {number} taken
  * @property {boolean} [isSignatureGood] what WebCrypto says, where it was asked
+ * @property {number} [crv] the curve of a signature that this browser can't verify
  * @property {KeyAnswer[]} keys
  * @property {Claims} [claims] the admission of a token that is authentic
  */
@@ -54,8 +55,9 @@ async function answerTo(cose, request, progress) {
     if (!request.keys) return withShape(cose, request, answer);
     const keySet = cose.readKeys(request.keys);
     if (keySet.status !== STATUS.COMPLETE) return { ...answer, state: "keys refused", refusal: keySet };
-    answer.keys = keyAnswers(cose, request, picture);
-    const decided = await verdictOn(cose, request, progress, answer);
+    const isLeft = isLeftToEddsa(cose, request, picture);
+    answer.keys = keyAnswers(cose, request, picture, isLeft ? eddsaKeyAnswer : keyAnswer);
+    const decided = await (isLeft ? eddsaVerdict : verdictOn)(cose, request, progress, answer);
     if (decided.state === "authentic" && picture.payload && isToken(picture)) {
         const payload = request.message.subarray(picture.payload.from, picture.payload.to);
         decided.claims = cose.admitClaims(payload, { ...request.requirements, large: true });
@@ -205,11 +207,12 @@ function faultOf(status) {
  * @param {Cose} cose
  * @param {Inquiry} request
  * @param {Picture} picture
+ * @param {typeof keyAnswer} answerOf
  * @returns {KeyAnswer[]}
  */
-function keyAnswers(cose, request, picture) {
+function keyAnswers(cose, request, picture, answerOf) {
     const found = keysIn(cose, /** @type {Uint8Array} */ (request.keys));
-    const answers = found.map((key) => keyAnswer(cose, request, picture, key));
+    const answers = found.map((key) => answerOf(cose, request, picture, key));
     const fitting = answers.filter((it) => it.state === "fits");
     if (fitting.length === 1) fitting[0].state = "chosen";
     for (const it of fitting.length > 1 ? fitting : []) it.why = "it fits, and so does another: none is chosen";
@@ -227,19 +230,34 @@ const ALL_KEYS = { algorithms: undefined, leastSecret: 0, shortMac: true, withou
  * @returns {KeyAnswer}
  */
 function keyAnswer(cose, { message, terms }, picture, { bytes, item, keySet }) {
-    if (keySet.usable !== 1 || item.type !== "map") return { bytes, item, state: "unusable", why: libraryWords(keySet.reason) };
-    // the bytes end in the payload, so that no more than the headers counts
-    const front = message.subarray(0, picture.payload?.from ?? message.length);
+    const isUsable = item.type === "map" && (keySet.usable === 1 || isEddsaKey(item));
+    if (!isUsable) return { bytes, item, state: "unusable", why: libraryWords(keySet.reason) };
+    const front = frontOf(message, picture);
     /** @param {Terms} stated */
     const reasonUnder = (stated) => cose.authenticate(bytes, front, { ...terms, ...stated, large: true }).reason;
-    /** @param {number} reason */
-    const fits = (reason) => PAST_KEY_CHOICE.includes(reason) || (reason <= TRUNCATED && picture.payload !== undefined);
     const reason = reasonUnder({});
-    if (fits(reason)) return { bytes, item, state: "fits" };
-    if (!NO_KEY_FITS.includes(reason)) return { bytes, item, state: "unasked", why: "the message is refused before a key is chosen" };
-    if (fits(reasonUnder(ALL_KEYS))) return { bytes, item, state: "left out", why: "it would fit, and isn't allowed by what is stated of keys" };
+    if (isPastKeyChoice(reason, picture)) return { bytes, item, state: "fits" };
+    if (!NO_KEY_FITS.includes(reason)) return { bytes, item, state: "unasked", why: UNASKED };
+    if (isPastKeyChoice(reasonUnder(ALL_KEYS), picture)) return { bytes, item, state: "left out", why: LEFT_OUT };
     return { bytes, item, state: "other", why: `${libraryWords(reason)}. The message asks for ${askedOf(picture)}.` };
 }
+
+const UNASKED = "the message is refused before a key is chosen";
+const LEFT_OUT = "it would fit, and isn't allowed by what is stated of keys";
+
+/**
+ * A message without the content of its payload, so that no more than the headers counts.
+ * @param {Uint8Array} message
+ * @param {Picture} picture
+ */
+const frontOf = (message, picture) => message.subarray(0, picture.payload?.from ?? message.length);
+
+/**
+ * Whether a front is refused, if at all, only once a key is chosen.
+ * @param {number} reason
+ * @param {Picture} picture
+ */
+const isPastKeyChoice = (reason, picture) => PAST_KEY_CHOICE.includes(reason) || (reason <= TRUNCATED && picture.payload !== undefined);
 
 const TRUNCATED = 1;
 

@@ -19,18 +19,27 @@ func NewKeyTable(keys []byte) (*KeyTable, error) {
 	table := new(KeyTable)
 	runtime.SetFinalizer(table, func(it *KeyTable) { it.block.free() })
 	data, isKept := table.block.keep(keys)
-	if !isKept || !table.block.make(C.cose_table_size(), C.cose_table_align()) {
-		table.block.free()
-		return nil, errNoMemory
+	var err error
+	table.usable, err = table.block.read(isKept, func() C.struct_cose_key_set { return C.sized_table_read(table.block.at, data) })
+	if err != nil {
+		return nil, err
 	}
-	C.cose_table_begin(table.block.at)
-	read := C.sized_table_read(table.block.at, data)
-	if read.status != C.COSE_COMPLETE {
-		table.block.free()
-		return nil, errorOf(read.status, read.reason, read.place)
-	}
-	table.usable = int(read.usable)
 	return table, nil
+}
+
+// read makes the block that of a table, whose keys are read then: how many are usable. Where that fails, the block is free again.
+func (b *block) read(isKept bool, read func() C.struct_cose_key_set) (usable int, err error) {
+	if !isKept || !b.make(C.cose_table_size(), C.cose_table_align()) {
+		b.free()
+		return 0, errNoMemory
+	}
+	C.cose_table_begin(b.at)
+	found := read()
+	if found.status != C.COSE_COMPLETE {
+		b.free()
+		return 0, errorOf(found.status, found.reason, found.place)
+	}
+	return int(found.usable), nil
 }
 
 // Len is how many keys are usable.

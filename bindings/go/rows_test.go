@@ -730,7 +730,8 @@ func TestRows(t *testing.T) {
 	}
 }
 
-func runFile(t *testing.T, schema string, run func(*group, *row) error, mayBeLeftOut int) {
+// groupsOf are the groups of rows of a file.
+func groupsOf(t *testing.T, schema string) []group {
 	text, err := os.ReadFile(filepath.Join("..", "..", "rows", schema+".json"))
 	if err != nil {
 		t.Fatal(err)
@@ -739,9 +740,14 @@ func runFile(t *testing.T, schema string, run func(*group, *row) error, mayBeLef
 	if err = json.Unmarshal(text, &file); err != nil {
 		t.Fatal(err)
 	}
+	return file.TestGroups
+}
+
+func runFile(t *testing.T, schema string, run func(*group, *row) error, mayBeLeftOut int) {
 	rows, left, differ, whys := 0, 0, 0, map[string]int{}
-	for i := range file.TestGroups {
-		g := &file.TestGroups[i]
+	groups := groupsOf(t, schema)
+	for i := range groups {
+		g := &groups[i]
 		for j := range g.Tests {
 			rows++
 			err := run(g, &g.Tests[j])

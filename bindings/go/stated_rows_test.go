@@ -6,6 +6,7 @@ import (
 	"errors"
 	"fmt"
 	"strings"
+	"testing"
 	"time"
 
 	"cose"
@@ -89,6 +90,14 @@ func (r *result) wanted() string {
 	return r.refusal(strings.ReplaceAll(r.Verdict, " message", ""))
 }
 
+// claimsIn is the answer for the claims of a message, or for the message where it is refused.
+func claimsIn(g *group, message *cose.Message, err error, large bool) string {
+	if err != nil {
+		return refusal(err)
+	}
+	return required(cose.AdmitClaims(message.Payload, g.requirements(), large))
+}
+
 func runTerms(g *group, r *row) error {
 	wanted := r.Result.wanted()
 	for _, large := range []bool{false, true} {
@@ -100,13 +109,7 @@ func runTerms(g *group, r *row) error {
 			return err
 		}
 		message, err := cose.Authenticate(g.Keys, r.Token, terms)
-		seen := ""
-		if err != nil {
-			seen = refusal(err)
-		} else {
-			seen = required(cose.AdmitClaims(message.Payload, g.requirements(), large))
-		}
-		if err = differs("Authenticate and AdmitClaims", seen, wanted); err != nil {
+		if err = differs("Authenticate and AdmitClaims", claimsIn(g, message, err, large), wanted); err != nil {
 			return err
 		}
 		// a verifier keeps no labels, and uses no byte after the message
@@ -114,12 +117,39 @@ func runTerms(g *group, r *row) error {
 			continue
 		}
 		for _, size := range []int{1, 7, 64} {
-			seen = inPiecesUnder(g, r.Token, terms, size)
+			seen := inPiecesUnder(g, r.Token, terms, size)
 			if err = differs(fmt.Sprintf("NewVerifierUnder, pieces of %d", size), seen, wanted); err != nil {
 				return err
 			}
 		}
 	}
+	return runTermsInTable(g, r.Token, wanted)
+}
+
+// throughTable is how many rows of each file went through a table too.
+var throughTable = map[string]int{}
+
+// runTermsInTable has the token under a table that is read once: no call changes it.
+func runTermsInTable(g *group, token []byte, wanted string) error {
+	terms, err := g.terms(false)
+	if err != nil {
+		return err
+	}
+	table, err := cose.NewTermsTable(g.Keys, terms)
+	if err != nil {
+		return err
+	}
+	defer table.Close()
+	for turn := 0; turn < 2; turn++ {
+		if err = differs("TermsTable.Admit", required(table.Admit(token, g.requirements())), wanted); err != nil {
+			return err
+		}
+		message, err := table.Authenticate(token)
+		if err = differs("TermsTable.Authenticate", claimsIn(g, message, err, false), wanted); err != nil {
+			return err
+		}
+	}
+	throughTable["terms"]++
 	return nil
 }
 
@@ -186,6 +216,29 @@ func (g *group) checked(r *row, large bool) (string, error) {
 	return "dropped", nil
 }
 
+// checkedInTable is the same by a table, which has no call for a detached payload.
+func (g *group) checkedInTable(r *row) (string, error) {
+	terms, err := g.terms(false)
+	if err != nil {
+		return "", err
+	}
+	terms.ECDSA = r.ecdsa
+	table, err := cose.NewTermsTable(g.Keys, terms)
+	if err != nil {
+		return "", err
+	}
+	defer table.Close()
+	throughTable["checklist"]++
+	_, err = table.Admit(r.Token, g.requirements())
+	switch {
+	case err != nil:
+		return required(nil, err), nil
+	case g.hasParameters(r.Token, &terms.Options):
+		return "accepted", nil
+	}
+	return "dropped", nil
+}
+
 func runChecklist(g *group, r *row) error {
 	for _, large := range []bool{false, true} {
 		if large && r.Result.Reason == "PastRoom" {
@@ -199,5 +252,35 @@ func runChecklist(g *group, r *row) error {
 			return err
 		}
 	}
-	return nil
+	if r.Payload != nil {
+		return nil
+	}
+	seen, err := g.checkedInTable(r)
+	if err != nil {
+		return err
+	}
+	return differs(fmt.Sprintf("line %d, TermsTable", g.Line), seen, r.Result.wanted())
+}
+
+// TestRowsInTable says how many rows go through a table: of the checklist all but those with a detached payload.
+func TestRowsInTable(t *testing.T) {
+	for schema, run := range map[string]func(*group, *row) error{"terms": runTerms, "checklist": runChecklist} {
+		throughTable[schema] = 0
+		attached, groups := 0, groupsOf(t, schema)
+		for i := range groups {
+			for j := range groups[i].Tests {
+				r := &groups[i].Tests[j]
+				if r.Payload == nil {
+					attached++
+				}
+				if err := run(&groups[i], r); err != nil {
+					t.Error(schema, r.TcID, err)
+				}
+			}
+		}
+		if throughTable[schema] != attached || attached < 50 {
+			t.Errorf("%s: %d rows through a table, and not %d", schema, throughTable[schema], attached)
+		}
+		t.Logf("%s: %d rows through a table", schema, attached)
+	}
 }

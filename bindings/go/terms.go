@@ -268,6 +268,11 @@ func AdmitClaims(payload []byte, requirements *Requirements, large bool) (*Claim
 	if err != nil {
 		return nil, err
 	}
+	return r.claims(payload, large)
+}
+
+// claims are those of an authentic payload, where they meet the requirements.
+func (r *required) claims(payload []byte, large bool) (*Claims, error) {
 	found := C.sized_admit_claims(C.bool(large), r.given, bytesOf(r.iss), bytesOf(r.sub), bytesOf(r.aud), bytesOf(payload))
 	return claimsOrUnmet(payload, &found)
 }
@@ -293,5 +298,5 @@ func Admit(keys, token []byte, requirements *Requirements, terms *Terms) (*Claim
 	if err != nil {
 		return nil, err
 	}
-	return AdmitClaims(message.Payload, requirements, t.Large)
+	return r.claims(message.Payload, t.Large)
 }

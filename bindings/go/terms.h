@@ -119,6 +119,34 @@ static inline struct cose_claims_set sized_admit_claims(bool large, struct sized
     return claims;
 }
 
+static inline struct cose_key_set sized_table_read_under(uint8_t *block, struct sized_terms terms, struct sized_bytes keys,
+    struct sized_bytes aad)
+{
+    struct cose_key_set key_set = {0};
+    struct cose_table table = {block};
+    struct cose_terms given = sized_terms_of(terms, keys, aad);
+    cose_table_read_under(&table, &given, &key_set);
+    return key_set;
+}
+
+static inline struct sized_answer sized_table_authenticate(uint8_t *block, struct sized_bytes message)
+{
+    struct sized_answer answer = {0};
+    struct cose_table table = {block};
+    cose_table_authenticate(&table, message.at, message.length, &answer.verdict, &answer.input);
+    return answer;
+}
+
+static inline struct cose_claims_set sized_table_admit(uint8_t *block, struct sized_requirements requirements, struct sized_bytes iss,
+    struct sized_bytes sub, struct sized_bytes aud, struct sized_bytes token)
+{
+    struct cose_claims_set claims = {0};
+    struct cose_table table = {block};
+    struct cose_requirements required = sized_requirements_of(requirements, (struct sized_texts){iss, sub, aud});
+    cose_table_admit(&table, &required, token.at, token.length, &claims);
+    return claims;
+}
+
 static inline struct cose_item sized_key_of(struct sized_terms terms, struct sized_bytes keys, struct sized_bytes message)
 {
     struct cose_item key = {0};

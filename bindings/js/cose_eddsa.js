@@ -1,7 +1,10 @@
 // Messages that are signed by EdDSA (RFC 9053 section 2.2), whose signature another library verifies.
+//
+// As cose.js and signatures.js, which a page reads before this one, it is a script without imports, and a module of Node.
 "use strict";
 
 const COMMON = typeof module === "object" ? module.require("./cose.js") : { LAYOUTS, STATUS, WANTED };
+const JOINS = typeof module === "object" ? module.require("./signatures.js") : { joined };
 
 /** What EdDSA is by the names of WebCrypto, for the number of a curve (RFC 9053 section 7.1). */
 const EDDSA_CURVES = Object.freeze({ 6: "Ed25519", 7: "Ed448" });
@@ -38,7 +41,7 @@ function verifyEddsa(cose, keys, message, { aad = new Uint8Array(), wanted = COM
         const head = (field) => heads[field].slice(0, heads[`${field}_length`]);
         const content = part("payload");
         const front = [head("context"), head("protected_head"), part("header"), head("aad_head"), aad, head("payload_head")];
-        const structure = new Uint8Array([...front, content].flatMap((piece) => [...piece]));
+        const structure = JOINS.joined(...front, content);
         const kid = all.has_kid === 1 ? part("kid") : undefined;
         const input = { alg: all.alg, crv: all.crv, kid, x: part("x"), structure, signature: part("signature") };
         return { status, reason, place, input, payload: content };

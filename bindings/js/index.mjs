@@ -7,6 +7,7 @@ import signing from "./cose_sign1.js";
 import items from "./items.js";
 import reasons from "./reasons.js";
 import signatures from "./signatures.js";
+import tables from "./terms_table.js";
 
 export const { isGoodEddsa } = edwards;
 export const { Elsewhere } = elsewhere;
@@ -38,6 +39,30 @@ const BAD_AUTH = 28;
  */
 const badSignature = ({ place }) => new Refused({ status: STATUS.REFUSED, reason: BAD_AUTH, place });
 
+/**
+ * Claims that meet what is required. Else it throws `Refused`.
+ * @param {Claims} claims
+ */
+function met(claims) {
+    if (claims.status !== STATUS.AUTHENTIC) throw new Refused(claims);
+    return claims;
+}
+
+/**
+ * The payload of a message with this verdict, whose signature, if it has one, WebCrypto verifies. Else it rejects with `Refused`.
+ * @param {Verdict} verdict
+ * @param {Uint8Array} message
+ * @param {{aad?: Uint8Array, payload?: Uint8Array}} options the external data, and a detached payload
+ * @returns {Promise<Uint8Array>}
+ */
+async function authenticated({ payloadAt, payloadLength, input, ...verdict }, message, { aad = new Uint8Array(), payload }) {
+    const content = payload ?? low.copyOf(message, payloadAt, payloadLength);
+    if (verdict.status === STATUS.AUTHENTIC) return content;
+    if (verdict.status !== STATUS.SIGNED) throw new Refused(verdict);
+    if (await isGoodSignature(input, sigStructure(protectedOf(message), aad, content))) return content;
+    throw badSignature(input);
+}
+
 /** The library. */
 export class Cose extends low.Cose {
     /**
@@ -48,14 +73,7 @@ export class Cose extends low.Cose {
      * @returns {Promise<Uint8Array>}
      */
     async payload(keys, message, options = {}) {
-        const verdict = this.verify(keys, message, options);
-        const { payloadAt, payloadLength, input } = verdict;
-        const payload = options.payload ?? low.copyOf(message, payloadAt, payloadLength);
-        if (verdict.status === STATUS.AUTHENTIC) return payload;
-        if (verdict.status !== STATUS.SIGNED) throw new Refused(verdict);
-        const structure = sigStructure(protectedOf(message), options.aad ?? new Uint8Array(), payload);
-        if (await isGoodSignature(input, structure)) return payload;
-        throw badSignature(input);
+        return authenticated(this.verify(keys, message, options), message, options);
     }
 
     /**
@@ -93,9 +111,7 @@ export class Cose extends low.Cose {
     async token(keys, token, options = {}) {
         const { now = Math.floor(Date.now() / 1000), leeway, audience, ...others } = options;
         const payload = await this.payload(keys, token, others);
-        const claims = this.claims(payload, { now, leeway, audience, large: options.large });
-        if (claims.status !== STATUS.AUTHENTIC) throw new Refused(claims);
-        return claims;
+        return met(this.claims(payload, { now, leeway, audience, large: options.large }));
     }
 
     /**
@@ -107,14 +123,7 @@ export class Cose extends low.Cose {
      * @returns {Promise<Uint8Array>}
      */
     async authenticPayload(keys, message, terms = {}) {
-        const verdict = this.authenticate(keys, message, terms);
-        const { payloadAt, payloadLength, input } = verdict;
-        const payload = terms.payload ?? low.copyOf(message, payloadAt, payloadLength);
-        if (verdict.status === STATUS.AUTHENTIC) return payload;
-        if (verdict.status !== STATUS.SIGNED) throw new Refused(verdict);
-        const structure = sigStructure(protectedOf(message), terms.aad ?? new Uint8Array(), payload);
-        if (await isGoodSignature(input, structure)) return payload;
-        throw badSignature(input);
+        return authenticated(this.authenticate(keys, message, terms), message, terms);
     }
 
     /**
@@ -127,9 +136,33 @@ export class Cose extends low.Cose {
     async admitted(keys, token, options = {}) {
         const { now = Math.floor(Date.now() / 1000), ...others } = options;
         const payload = await this.authenticPayload(keys, token, others);
-        const claims = this.admitClaims(payload, { ...others, now });
-        if (claims.status !== STATUS.AUTHENTIC) throw new Refused(claims);
-        return claims;
+        return met(this.admitClaims(payload, { ...others, now }));
+    }
+}
+
+/** A table of the keys that terms permit: `new TermsTable(cose, { keys, ...terms })`. `close` it, or the module's memory has it. */
+export class TermsTable extends tables.TermsTable {
+    /**
+     * The payload of a message that is authentic under the table's terms. A signature is verified by WebCrypto. Else it rejects with
+     * `Refused`.
+     * @param {Uint8Array} message
+     * @returns {Promise<Uint8Array>}
+     */
+    async authenticPayload(message) {
+        return authenticated(this.authenticate(message), message, { aad: this.aad });
+    }
+
+    /**
+     * The claims of a token that is authentic under the table's terms and meets the requirements, by default at the time of the
+     * machine's clock. Else it rejects with `Refused`.
+     * @param {Uint8Array} token
+     * @param {Partial<Requirements>} [requirements]
+     */
+    async admitted(token, requirements = {}) {
+        const { now = Math.floor(Date.now() / 1000), ...others } = requirements;
+        const claims = this.admit(token, { ...others, now });
+        if (claims.status !== STATUS.SIGNED) return met(claims);
+        return met(this.cose.admitClaims(await this.authenticPayload(token), { ...others, now }));
     }
 }
 

@@ -4,7 +4,7 @@
  * bytes of stack, and comparing tags counts the same whether they differ in the first byte or in the last.
  */
 #include "board.h"
-#include "cose.h"
+#include "device.h"
 #include "messages.h"
 
 enum { TURNS = 64 };

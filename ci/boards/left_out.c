@@ -5,7 +5,7 @@
  */
 #include "board.h"
 #define COSE_NO_SHA512
-#include "cose.h"
+#include "device.h"
 
 static _Alignas(64) uint8_t block[4096];
 static int wrong;

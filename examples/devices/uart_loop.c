@@ -8,7 +8,7 @@
 /* A COSE_Key. A device has one of its own. */
 static const uint8_t key[] = {0xa3, 0x01, 0x04, 0x03, 0x05, 0x20, 0x44, 'J', 'e', 'f', 'e'};
 
-static _Alignas(16) uint8_t block[3456];
+static _Alignas(COSE_BLOCK_ALIGN) uint8_t block[COSE_DEVICE_VERIFIER_BLOCK];
 
 /* The payload of the message that is read, which nobody acts on before the message is authentic. */
 static uint8_t payload[128];
@@ -54,10 +54,10 @@ static int keep(const uint8_t *bytes, uint64_t length)
 }
 
 /* All bytes of a message are there. 0 says that no signature is good: there is none. */
-static void judge(struct cose_verifier *verifier)
+static void judge(struct cose_device_verifier *verifier)
 {
     struct cose_message_verdict verdict;
-    cose_verdict(verifier, 0, &verdict);
+    cose_device_verdict(verifier, 0, &verdict);
     if (verdict.status != COSE_AUTHENTIC) {
         refuse(verdict.reason, verdict.place);
         return;
@@ -68,13 +68,13 @@ static void judge(struct cose_verifier *verifier)
 }
 
 /* Takes one message, and answers it. */
-static void take_message(struct cose_verifier *verifier)
+static void take_message(struct cose_device_verifier *verifier)
 {
     struct cose_fed fed;
     payload_length = 0;
     do {
         uint8_t byte = line_read();
-        cose_feed(verifier, &byte, 1, &fed);
+        cose_device_feed(verifier, &byte, 1, &fed);
         if (!keep(&byte + fed.payload_at, fed.payload_length)) {
             print("no room for the payload\n");
             return;
@@ -88,21 +88,21 @@ static void take_message(struct cose_verifier *verifier)
 
 int main(void)
 {
-    struct cose_verifier verifier = {.at = block};
+    struct cose_device_verifier verifier = {.at = block};
     struct cose_status status;
-    if (cose_verifier_size() > sizeof block || cose_verifier_align() > 16) {
+    if (cose_device_verifier_size() > sizeof block || cose_device_verifier_align() > COSE_BLOCK_ALIGN) {
         print("no room for a verifier\n");
         return 1;
     }
-    cose_begin(block);
-    cose_open(&verifier, key, sizeof key, NULL, 0, COSE_MAC0, &status);
-    if (status.status != COSE_MORE || cose_needs_sha512(&verifier)) {
+    cose_device_begin(block);
+    cose_device_open(&verifier, key, sizeof key, NULL, 0, COSE_MAC0, &status);
+    if (status.status != COSE_MORE || cose_device_needs_sha512(&verifier)) {
         print("the key is refused\n");
         return 1;
     }
     print("ready\n");
     for (;;) {
         take_message(&verifier);
-        cose_reset(&verifier);
+        cose_device_reset(&verifier);
     }
 }

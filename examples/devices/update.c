@@ -11,7 +11,7 @@
 /* A COSE_Key. A device has one of its own. */
 static const uint8_t key[] = {0xa3, 0x01, 0x04, 0x03, 0x05, 0x20, 0x44, 'J', 'e', 'f', 'e'};
 
-static _Alignas(16) uint8_t block[3456];
+static _Alignas(COSE_BLOCK_ALIGN) uint8_t block[COSE_DEVICE_VERIFIER_BLOCK];
 
 enum { BLOCK = 64 };
 
@@ -61,7 +61,7 @@ static size_t read_block(uint8_t *bytes)
 }
 
 /* Takes a message in blocks. It returns 1 where the image is authentic. */
-static int take_image(struct cose_verifier *verifier)
+static int take_image(struct cose_device_verifier *verifier)
 {
     struct cose_message_verdict verdict;
     struct cose_fed fed = {0};
@@ -72,26 +72,26 @@ static int take_image(struct cose_verifier *verifier)
     for (; count != 0; count = read_block(bytes)) {
         good = good && count <= BLOCK;
         if (good) {
-            cose_feed(verifier, bytes, count, &fed);
+            cose_device_feed(verifier, bytes, count, &fed);
             good = fed.used == count && write_image(bytes + fed.payload_at, fed.payload_length);
         }
         answer('.');
     }
     if (!good || fed.status.status != COSE_COMPLETE)
         return 0;
-    cose_verdict(verifier, 0, &verdict);
+    cose_device_verdict(verifier, 0, &verdict);
     return verdict.status == COSE_AUTHENTIC;
 }
 
 int main(void)
 {
-    struct cose_verifier verifier = {.at = block};
+    struct cose_device_verifier verifier = {.at = block};
     struct cose_status status;
-    if (cose_verifier_size() > sizeof block || cose_verifier_align() > 16)
+    if (cose_device_verifier_size() > sizeof block || cose_device_verifier_align() > COSE_BLOCK_ALIGN)
         return 1;
-    cose_begin(block);
-    cose_open(&verifier, key, sizeof key, NULL, 0, COSE_MAC0, &status);
-    if (status.status != COSE_MORE || cose_needs_sha512(&verifier))
+    cose_device_begin(block);
+    cose_device_open(&verifier, key, sizeof key, NULL, 0, COSE_MAC0, &status);
+    if (status.status != COSE_MORE || cose_device_needs_sha512(&verifier))
         return 1;
     for (;;) {
         length = 0;
@@ -102,6 +102,6 @@ int main(void)
         } else {
             answer('R');
         }
-        cose_reset(&verifier);
+        cose_device_reset(&verifier);
     }
 }

@@ -8,7 +8,7 @@
 import assert from "node:assert/strict";
 import { readFileSync } from "node:fs";
 import { fileURLToPath } from "node:url";
-import { Elsewhere, KeyTable, load, Maker, reasonOf, Refused, Sign1Maker, STATUS, UNMET, Verifier } from "../index.mjs";
+import { Elsewhere, KeyTable, load, Maker, reasonOf, Refused, Sign1Maker, STATUS, TermsTable, UNMET, Verifier } from "../index.mjs";
 
 const ROWS = new URL("../../../rows/", import.meta.url);
 const CUTS = [1, 2, 7, 64, 65_536];
@@ -333,12 +333,33 @@ function runTerms(group, test) {
     for (const large of [false, true]) {
         const stated = termsOf(group, large);
         equal(required(cose.admit(keys, token, stated)), wanted, "admit");
-        const verdict = cose.authenticate(keys, token, stated);
-        const payload = token.subarray(verdict.payloadAt, verdict.payloadAt + verdict.payloadLength);
-        const seen = verdict.status === STATUS.AUTHENTIC ? required(cose.admitClaims(payload, stated)) : refused(verdict);
-        equal(seen, wanted, "authenticate and admitClaims");
+        equal(claimsIn(cose.authenticate(keys, token, stated), token, stated), wanted, "authenticate and admitClaims");
         if (test.result.reason === "Trailing" || stated.understood?.length) continue;
         for (const size of [1, 7, 64]) equal(inPiecesUnder(keys, token, stated, size), wanted, `openUnder, pieces of ${size}`);
+    }
+    runTermsInTable(keys, token, termsOf(group, false), wanted);
+}
+
+/** The answer for the claims of a message with this verdict. */
+function claimsIn(verdict, token, stated) {
+    const payload = token.subarray(verdict.payloadAt, verdict.payloadAt + verdict.payloadLength);
+    return verdict.status === STATUS.AUTHENTIC ? required(cose.admitClaims(payload, stated)) : refused(verdict);
+}
+
+/** How many rows of each file went through a table too. */
+export const throughTable = { terms: 0, checklist: 0 };
+
+/** A token under a table that is read once: no call changes it. */
+function runTermsInTable(keys, token, stated, wanted) {
+    const table = new TermsTable(cose, { keys, ...stated });
+    try {
+        for (let turn = 0; turn < 2; turn += 1) {
+            equal(required(table.admit(token, stated)), wanted, "TermsTable.admit");
+            equal(claimsIn(table.authenticate(token), token, stated), wanted, "TermsTable.authenticate");
+        }
+        throughTable.terms += 1;
+    } finally {
+        table.close();
     }
 }
 
@@ -389,7 +410,23 @@ async function checked(group, test, large) {
         return ["accepted"];
     }
     await cose.admitted(keys, token, stated);
-    const { wanted } = stated;
+    return keptOrDropped(group, token, stated);
+}
+
+/** The same by a table, which has no call for a detached payload. */
+async function checkedInTable(group, test) {
+    const [keys, token, stated] = [octets(group.keys), octets(test.token), termsOf(group, false)];
+    const table = new TermsTable(cose, { keys, ...stated });
+    try {
+        await table.admitted(token, stated);
+        return keptOrDropped(group, token, stated);
+    } finally {
+        table.close();
+    }
+}
+
+/** Whether the buckets of an admitted token have the parameters without which the caller drops it. */
+function keptOrDropped(group, token, { wanted, large }) {
     const lacks = ["protected", "unprotected"].some((bucket) =>
         (group[bucket] ?? []).some((label) => cose.parameter(token, label, { protected: bucket === "protected", wanted, large }) === undefined),
     );
@@ -409,6 +446,9 @@ async function runChecklist(group, test) {
     for (const large of reason === "PastRoom" ? [false] : [false, true]) {
         equal(await checked(group, test, large).catch(refusedAs), wanted, `line ${group.line}`);
     }
+    if ("payload" in test) return;
+    equal(await checkedInTable(group, test).catch(refusedAs), wanted, `line ${group.line}, TermsTable`);
+    throughTable.checklist += 1;
 }
 
 // ---- keys

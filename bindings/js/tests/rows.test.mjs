@@ -1,7 +1,7 @@
 // The rows of rows/, a test a file.
 import assert from "node:assert/strict";
 import { test } from "node:test";
-import { leftOutOf, lineOf, runFile, SCHEMAS } from "./rows.mjs";
+import { leftOutOf, lineOf, runFile, SCHEMAS, throughTable } from "./rows.mjs";
 
 /** How many rows of each file are left out, so that no more are. */
 const LEFT_OUT = {
@@ -27,5 +27,16 @@ for (const schema of SCHEMAS) {
         assert.deepEqual(counts.differ, []);
         assert.equal(leftOutOf(counts), LEFT_OUT[schema]);
         assert.ok(counts.rows > LEFT_OUT[schema]);
+    });
+}
+
+/** Rows whose payload is detached, for which a table has no call. */
+const DETACHED = { terms: 0, checklist: 5 };
+
+for (const [schema, detached] of Object.entries(DETACHED)) {
+    test(`each row of ${schema} whose payload is in its message goes through a table too`, async () => {
+        throughTable[schema] = 0;
+        const { rows, differ } = await runFile(schema);
+        assert.deepEqual([differ, rows - throughTable[schema]], [[], detached]);
     });
 }

@@ -103,6 +103,23 @@ static PyObject *table_verify(PyObject *module, PyObject *arguments)
     return bytes_of_answer(&found);
 }
 
+static PyObject *table_authenticate(PyObject *module, PyObject *arguments)
+{
+    struct cose_table table;
+    struct slice message;
+    struct answer found;
+    void *block;
+    (void)module;
+    if (!PyArg_ParseTuple(arguments, "O&y#:table_authenticate", to_address, &block, PARSED(message)))
+        return NULL;
+    table.at = block;
+    memset(&found, 0, sizeof found);
+    PyThreadState *thread = let_others_run(message.length);
+    cose_table_authenticate(&table, PASSED(message), &found.verdict, &found.input);
+    go_on(thread);
+    return bytes_of_answer(&found);
+}
+
 static PyObject *verify_cwt(PyObject *module, PyObject *arguments)
 {
     struct slice keys, aad, audience, token;
@@ -139,6 +156,29 @@ static PyObject *table_verify_cwt(PyObject *module, PyObject *arguments)
     memset(&claims, 0, sizeof claims);
     PyThreadState *thread = let_others_run(token.length);
     cose_table_verify_cwt(&table, PASSED(aad), &policy, PASSED(token), &claims);
+    go_on(thread);
+    return bytes_of(&claims, sizeof claims);
+}
+
+static PyObject *table_admit(PyObject *module, PyObject *arguments)
+{
+    struct cose_table table;
+    struct cose_requirements requirements;
+    struct slice stated, token;
+    struct cose_claims_set claims;
+    void *block;
+    (void)module;
+    if (!PyArg_ParseTuple(arguments, "O&y#y#:table_admit", to_address, &block, PARSED(stated), PARSED(token)))
+        return NULL;
+    if (stated.length != sizeof requirements) {
+        PyErr_SetString(PyExc_ValueError, "requirements of another size");
+        return NULL;
+    }
+    table.at = block;
+    memcpy(&requirements, stated.at, sizeof requirements);
+    memset(&claims, 0, sizeof claims);
+    PyThreadState *thread = let_others_run(token.length);
+    cose_table_admit(&table, &requirements, PASSED(token), &claims);
     go_on(thread);
     return bytes_of(&claims, sizeof claims);
 }
@@ -284,6 +324,8 @@ static PyObject *items(PyObject *module, PyObject *arguments)
 static PyMethodDef calls[] = {
     {"verify", verify, METH_VARARGS, "cose_verify, or cose_large_verify."},
     {"table_verify", table_verify, METH_VARARGS, "cose_table_verify."},
+    {"table_authenticate", table_authenticate, METH_VARARGS, "cose_table_authenticate."},
+    {"table_admit", table_admit, METH_VARARGS, "cose_table_admit, under the bytes of struct cose_requirements."},
     {"verify_cwt", verify_cwt, METH_VARARGS, "cose_verify_cwt, or cose_large_verify_cwt."},
     {"table_verify_cwt", table_verify_cwt, METH_VARARGS, "cose_table_verify_cwt."},
     {"table_verify_cwts", table_verify_cwts, METH_VARARGS, "cose_table_verify_cwt of each token of a tuple."},

@@ -18,88 +18,30 @@ import itertools
 import json
 import pathlib
 import sys
-from typing import Any, Callable, Counter, Dict, Iterator, List, NamedTuple, Optional, Tuple
+from typing import Any, Callable, Counter, Dict, List, NamedTuple, Optional, Tuple
 
 import cose
+from row_answers import (
+    CUTS,
+    KINDS,
+    Answer,
+    Differs,
+    LeftOut,
+    Row,
+    Signature,
+    answer,
+    cut,
+    equal,
+    fed,
+    octets,
+    plain,
+    refusal,
+    sizes,
+    wanted_claims,
+)
+from stated_rows import run_checklist, run_terms
 
 ROWS = pathlib.Path(__file__).resolve().parents[3] / "rows"
-CUTS = (1, 2, 7, 64, 65_536)
-KINDS = {"tagged": None, "mac0": cose.Kind.MAC0, "sign1": cose.Kind.SIGN1}
-SIZES = {False: (1_024, 8), True: (65_535, 16)}
-
-Row = Dict[str, Any]
-
-
-class LeftOut(Exception):
-    """A row that the interface can't ask, and why."""
-
-
-class Differs(Exception):
-    """A row that is answered otherwise."""
-
-
-def octets(row: Row, name: str) -> bytes:
-    return bytes.fromhex(row[name])
-
-
-def equal(seen: Any, wanted: Any, how: str) -> None:
-    if seen != wanted:
-        raise Differs(f"{how}: {seen}, and not {wanted}")
-
-
-def sizes(group: Row, reason: Optional[str]) -> List[bool]:
-    """The sizes (whether large) that answer a row of a group as its own limits do."""
-    if group.get("understood"):
-        raise LeftOut("labels are understood")
-    if reason == "PayloadTooLong" and "payloadLimit" in group:
-        raise LeftOut("its limit of the payload is the reason")
-    if reason == "WrongTag" and group.get("cwt") is False:
-        raise LeftOut("no CWT tag may come")
-    found = []
-    for large, (header, nesting) in SIZES.items():
-        if group.get("headerLimit", header) > header or group["nesting"] > nesting:
-            continue
-        if reason == "PastRoom" and group.get("headerLimit", header) < header:
-            continue
-        if reason == "TooDeep" and group["nesting"] < nesting:
-            continue
-        found.append(large)
-    if not found:
-        raise LeftOut("its limits of headers are others")
-    return found
-
-
-class Signature:
-    """What a row says of its signature: asked about anything else, it says the contrary."""
-
-    def __init__(self, test: Row) -> None:
-        said = test.get("signature")
-        self.asked = said and (octets(said, "digest"), octets(said, "signature"))
-        self.holds = bool(said) and said["holds"]
-
-    def __call__(self, given: cose.SignInput) -> bool:
-        is_asked = self.asked == (given.digest, given.signature)
-        return self.holds if is_asked else bool(self.asked) and not self.holds
-
-
-Answer = Tuple[Any, ...]
-
-
-def answer(call: Callable[[], Answer]) -> Answer:
-    """What a call answers: what it returns, or its refusal."""
-    try:
-        return call()
-    except cose.Refused as refused:
-        verdict = "refused claims" if isinstance(refused, cose.ClaimsRefused) else "refused"
-        return verdict, refused.reason.name, refused.place
-
-
-def refusal(result: Row, verdict: str = "refused") -> Answer:
-    return verdict, result["reason"], result["place"]
-
-
-def cut(data: bytes, size: int) -> Iterator[bytes]:
-    return (data[at : at + size] for at in range(0, len(data), size))
 
 
 # ---- messages
@@ -108,18 +50,6 @@ def cut(data: bytes, size: int) -> Iterator[bytes]:
 def in_one_call(keys: cose.Keys, message: bytes, **options: Any) -> Answer:
     found = cose.verify(keys, message, **options)
     return "authentic", found.kind.name.lower(), int(found.alg), found.payload, found.taken
-
-
-def fed(verifier: cose.Verifier, message: bytes, size: int, came: bytearray) -> Answer:
-    """Feeds a message in pieces, up to its payload where that is detached."""
-    used = 0
-    for piece in cut(message, size):
-        taken = verifier.feed(piece)
-        came += taken.payload
-        used += taken.used
-        if taken.status == cose.Status.PAYLOAD_NEXT:
-            break
-    return ("used", used)
 
 
 def good(found: cose.Verdict) -> Answer:
@@ -389,41 +319,6 @@ def run_shape(group: Row, test: Row) -> None:
 # ---- tokens
 
 
-def plain_key(key: Optional[cose.ConfirmationKey]) -> Row:
-    if key is None:
-        return {}
-    y = key.y if isinstance(key.y, bool) else key.y.hex()
-    return {"key": {"curve": key.crv, "x": key.x.hex(), "y": y}}
-
-
-def plain(claims: cose.Claims) -> Row:
-    """Claims as rows have them."""
-    found: Row = {name: getattr(claims, name) for name in ("iss", "sub")}
-    found.update((name, getattr(claims, name)) for name in ("exp", "nbf", "iat"))
-    found["cti"] = claims.cti and claims.cti.hex() if claims.cti else claims.cti
-    found["aud"] = list(claims.aud) or None
-    if claims.cnf is not None:
-        kid = {} if claims.cnf.kid is None else {"kid": claims.cnf.kid.hex()}
-        found["cnf"] = {**kid, **plain_key(claims.cnf.key)}
-    found = {name: it for name, it in found.items() if it is not None}
-    return {name: "" if it == b"" else it for name, it in found.items()}
-
-
-def wanted_claims(said: Row) -> Row:
-    """The claims of a row, as far as the interface gives them: of a confirmed key its point."""
-    wanted = dict(said)
-    for name in ("exp", "nbf", "iat"):
-        if name in wanted:
-            wanted[name] = int(wanted[name])
-    if "cnf" in wanted:
-        cnf = dict(wanted.pop("cnf"))
-        if "key" in cnf:
-            cnf["key"] = {name: cnf["key"][name] for name in ("curve", "x", "y")}
-        if cnf:
-            wanted["cnf"] = cnf
-    return wanted
-
-
 def policy_of(group: Row) -> Row:
     audiences = group.get("audience")
     if audiences is not None and len(audiences) != 1:
@@ -494,133 +389,6 @@ def run_claims(group: Row, test: Row) -> None:
         else:
             wanted = refusal(result, "refused claims")
         equal(answer(call), wanted, "claims")
-
-
-# ---- tokens under terms and requirements
-
-
-def terms_of(group: Row) -> Row:
-    """What a group states of messages and requires of tokens, as arguments."""
-    numbers = {"lifetime": "max_lifetime", "age": "max_age"}
-    names = {"iss": "issuer", "sub": "subject", "aud": "audience"}
-    plainly = {"leastSecret": "least_secret", "shortMac": "short_mac", "withoutAlg": "without_alg"}
-    plainly.update({"withoutExp": "without_exp", "payloadLimit": "payload_limit"})
-    found = {to: group[it] for it, to in {**names, **plainly}.items() if it in group}
-    found.update((to, int(group[it])) for it, to in numbers.items() if it in group)
-    same = ("algorithms", "present", "leeway", "understood")
-    found.update((it, group[it]) for it in same if it in group)
-    found.update(now=int(group["now"]), aad=octets(group, "aad"), wanted=KINDS[group["wanted"]])
-    return found
-
-
-# those of messages
-_STATED = ("algorithms", "least_secret", "short_mac", "without_alg", "understood", "payload_limit")
-
-
-def unmet_of(result: Row) -> Answer:
-    name = result.get("claim", result["requirement"])
-    return "unmet", name.upper(), result["place"]
-
-
-def run_terms(group: Row, test: Row) -> None:
-    result, token, keys = test["result"], octets(test, "token"), octets(group, "keys")
-    given = terms_of(group)
-    if result["verdict"] == "admitted":
-        wanted: Answer = "admitted", wanted_claims(result["claims"])
-    elif result["verdict"] == "unmet":
-        wanted = unmet_of(result)
-    else:
-        wanted = refusal(result, result["verdict"].replace(" message", ""))
-    for large in SIZES:
-        for held in (keys, cose.KeyTable(keys)):
-
-            def call() -> Answer:
-                try:
-                    return "admitted", plain(cose.admit(held, token, large=large, **given))
-                except cose.Unmet as unmet:
-                    return "unmet", unmet.requirement.name, unmet.place
-
-            equal(answer(call), wanted, "admit")
-        messages = {it: given[it] for it in (*_STATED, "aad", "wanted") if it in given}
-        of_tokens = {it: given[it] for it in given if it not in messages}
-
-        def in_two() -> Answer:
-            payload = cose.authenticate(keys, token, large=large, **messages).payload
-            try:
-                return "admitted", plain(cose.admit_claims(payload, large=large, **of_tokens))
-            except cose.Unmet as unmet:
-                return "unmet", unmet.requirement.name, unmet.place
-
-        equal(answer(in_two), wanted, "authenticate and admit_claims")
-        if result.get("reason") != "Trailing" and not given.get("understood"):
-            for size in CUTS:
-                run_terms_in_pieces(keys, token, wanted, {**messages, "large": large}, of_tokens, size)
-
-
-def run_terms_in_pieces(
-    keys: bytes, token: bytes, wanted: Answer, terms: Row, of_tokens: Row, size: int
-) -> None:
-    """A token that is fed, under the terms of a row; then its claims under the requirements."""
-    stated = {it: terms[it] for it in terms if it != "understood"}
-
-    def call() -> Answer:
-        came = bytearray()
-        with cose.Verifier.under(keys, **stated) as verifier:
-            fed(verifier, token, size, came)
-            verifier.verdict()
-        try:
-            claims = cose.admit_claims(bytes(came), large=terms["large"], **of_tokens)
-        except cose.Unmet as unmet:
-            return "unmet", unmet.requirement.name, unmet.place
-        return "admitted", plain(claims)
-
-    equal(answer(call), wanted, f"Verifier.under, pieces of {size}")
-
-
-# ---- the lines of SECURITY's checklist
-
-
-def has_parameters(group: Row, message: cose.Message) -> bool:
-    """Whether the buckets have the parameters without which the caller drops the message."""
-    read = {"protected": message.protected, "unprotected": message.unprotected}
-    for bucket, label in ((it, label) for it in read for label in group.get(it, ())):
-        try:
-            read[bucket](label)
-        except KeyError:
-            return False
-    return True
-
-
-def checked(group: Row, test: Row, keys: cose.Keys, large: bool) -> Answer:
-    """What a caller who follows the checklist makes of a message: the safe calls, with what it states."""
-    given, token = terms_of(group), octets(test, "token")
-    messages = {it: given.pop(it) for it in (*_STATED, "aad", "wanted") if it in given}
-    messages.update(ecdsa=Signature(test), large=large)
-    if "payload" in test:
-        cose.authenticate(keys, token, payload=octets(test, "payload"), **messages)
-        return ("accepted",)
-    try:
-        cose.admit(keys, token, **given, **messages)
-    except cose.Unmet as unmet:
-        return "unmet", unmet.requirement.name, unmet.place
-    found = cose.authenticate(keys, token, **messages)
-    return ("accepted",) if has_parameters(group, found) else ("dropped",)
-
-
-def run_checklist(group: Row, test: Row) -> None:
-    result, keys = test["result"], octets(group, "keys")
-    if result["verdict"] == "unmet":
-        wanted = unmet_of(result)
-    elif "reason" in result:
-        wanted = refusal(result, result["verdict"].replace(" message", ""))
-    else:
-        wanted = (result["verdict"],)
-    for large in SIZES:
-        if large and result.get("reason") == "PastRoom":
-            continue
-        for held in (keys, cose.KeyTable(keys)):
-            seen = answer(lambda: checked(group, test, held, large))
-            equal(seen, wanted, f"line {group['line']}")
 
 
 # ---- keys

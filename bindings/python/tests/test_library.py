@@ -29,6 +29,7 @@ STRUCTS: Dict[str, Type[ctypes.Structure]] = {
     "cose_made": _library.MadeStruct,
     "cose_verifier": _library.HandleStruct,
     "cose_large_verifier": _library.HandleStruct,
+    "cose_device_verifier": _library.HandleStruct,
     "cose_table": _library.HandleStruct,
     "cose_maker": _library.HandleStruct,
     "cose_signer": _library.HandleStruct,

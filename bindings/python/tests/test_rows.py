@@ -3,6 +3,7 @@
 import unittest
 
 import rows
+import stated_rows
 
 
 class Rows(unittest.TestCase):
@@ -25,6 +26,9 @@ class Rows(unittest.TestCase):
         "signed": 1,
     }
 
+    # those of the checklist with a detached payload
+    DETACHED = 5
+
     def test_rows(self) -> None:
         for schema, left_out in self.LEFT_OUT.items():
             with self.subTest(schema):
@@ -32,6 +36,15 @@ class Rows(unittest.TestCase):
                 self.assertEqual(counts.differ, [])
                 self.assertEqual(sum(counts.left_out.values()), left_out, counts.left_out)
                 self.assertGreater(counts.rows, left_out)
+
+    def test_table(self) -> None:
+        """Each row of terms goes through a table too, and each of the checklist without such a payload."""
+        stated_rows.through_table.clear()
+        terms, checklist = rows.run_file("terms"), rows.run_file("checklist")
+        self.assertEqual(terms.differ + checklist.differ, [])
+        through = stated_rows.through_table
+        self.assertEqual(through["terms"], terms.rows)
+        self.assertEqual(checklist.rows - through["checklist"], self.DETACHED)
 
 
 if __name__ == "__main__":

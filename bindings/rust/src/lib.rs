@@ -8,7 +8,7 @@
 //! | a message in memory | [`verify`], [`verify_with`], [`verify_detached`] |
 //! | a message that comes in pieces, a detached payload of any length | [`Verifier`] |
 //! | a token in memory | [`verify_cwt`], or [`claims`] once its message is authentic |
-//! | many messages under the same keys | [`KeyTable`] |
+//! | many messages under the same keys | [`KeyTable`], or under the same terms [`TermsTable`] |
 //! | a header of more than 1,024 bytes, as with a chain of certificates | [`Large`] |
 //! | a payload that wants a MAC | [`Maker`] |
 //!
@@ -70,6 +70,7 @@ mod sign_input;
 mod size;
 mod table;
 mod terms;
+mod terms_table;
 mod verifier;
 
 pub use block::Block;
@@ -100,4 +101,5 @@ pub use terms::{
     authenticate_detached_sized, authenticate_sized, Claim, NotAdmitted, Requirement, Requirements,
     Terms,
 };
+pub use terms_table::TermsTable;
 pub use verifier::{Accepted, Fed, LargeVerifierBlock, Status, Verifier, VerifierBlock};

@@ -148,6 +148,12 @@ pub(crate) struct AskedSignature {
 
 /// The handle of a verifier: where its block is.
 #[repr(C)]
+pub(crate) struct DeviceVerifier {
+    pub(crate) at: *mut u8,
+}
+
+/// The handle of a verifier: where its block is.
+#[repr(C)]
 pub(crate) struct LargeVerifier {
     pub(crate) at: *mut u8,
 }
@@ -405,6 +411,9 @@ unsafe extern "C" {
         verifier: &mut Verifier, mac: *const u8, mac_length: usize, verdict: &mut Verdict,
     );
     pub(crate) fn cose_verdict_of_answer(verifier: &mut Verifier, message: u64, holds: i32, verdict: &mut Verdict);
+    pub(crate) safe fn cose_device_verifier_size() -> usize;
+    pub(crate) safe fn cose_device_verifier_align() -> usize;
+    pub(crate) fn cose_device_begin(at: *mut u8);
     pub(crate) safe fn cose_large_verifier_size() -> usize;
     pub(crate) safe fn cose_large_verifier_align() -> usize;
     pub(crate) fn cose_large_begin(at: *mut u8);
@@ -480,6 +489,32 @@ unsafe extern "C" {
         signer: &mut Signer, signature: *const u8, signature_length: usize, tail: *mut u8, tail_room: usize,
         made: &mut Made,
     );
+    pub(crate) fn cose_edge_device_open(
+        verifier: &mut DeviceVerifier, keys: *const u8, keys_length: usize, aad: *const u8, aad_length: usize,
+        wanted: u8, status: &mut Status,
+    );
+    pub(crate) fn cose_edge_device_open_detached(
+        verifier: &mut DeviceVerifier, keys: *const u8, keys_length: usize, aad: *const u8, aad_length: usize,
+        wanted: u8, payload_length: u64, status: &mut Status,
+    );
+    pub(crate) fn cose_edge_device_feed(
+        verifier: &mut DeviceVerifier, piece: *const u8, piece_length: usize, fed: &mut Fed,
+    );
+    pub(crate) fn cose_device_wanted(verifier: &mut DeviceVerifier) -> u64;
+    pub(crate) fn cose_device_payload_wanted(verifier: &mut DeviceVerifier) -> u64;
+    pub(crate) fn cose_edge_device_feed_payload(
+        verifier: &mut DeviceVerifier, piece: *const u8, piece_length: usize,
+    ) -> u64;
+    pub(crate) fn cose_device_end(verifier: &mut DeviceVerifier, status: &mut Status);
+    pub(crate) fn cose_device_sign_input(verifier: &mut DeviceVerifier, input: &mut SignInput) -> u8;
+    pub(crate) fn cose_device_verdict(verifier: &mut DeviceVerifier, signature_is_good: i32, verdict: &mut Verdict);
+    pub(crate) fn cose_device_message_number(verifier: &mut DeviceVerifier) -> u64;
+    pub(crate) fn cose_device_verdict_for(
+        verifier: &mut DeviceVerifier, message: u64, signature_is_good: i32, verdict: &mut Verdict,
+    );
+    pub(crate) fn cose_device_reset(verifier: &mut DeviceVerifier);
+    pub(crate) fn cose_device_taken(verifier: &mut DeviceVerifier) -> u64;
+    pub(crate) fn cose_device_held(verifier: &mut DeviceVerifier) -> u64;
     pub(crate) fn cose_edge_large_open(
         verifier: &mut LargeVerifier, keys: *const u8, keys_length: usize, aad: *const u8, aad_length: usize,
         wanted: u8, status: &mut Status,
@@ -549,6 +584,13 @@ unsafe extern "C" {
     pub(crate) fn cose_edge_header_named(
         verifier: &mut Verifier, is_protected: u32, name: *const u8, name_length: usize, into: *mut u8,
         into_room: usize, item: &mut Item,
+    );
+    pub(crate) fn cose_edge_table_read_under(table: &mut Table, terms: &Terms, key_set: &mut KeySet);
+    pub(crate) fn cose_edge_table_authenticate(
+        table: &mut Table, message: *const u8, message_length: usize, verdict: &mut Verdict, input: &mut SignInput,
+    );
+    pub(crate) fn cose_edge_table_admit(
+        table: &mut Table, requirements: &Requirements, token: *const u8, token_length: usize, claims: &mut Claims,
     );
     pub(crate) fn cose_edge_table_read(table: &mut Table, keys: *const u8, keys_length: usize, key_set: &mut KeySet);
     pub(crate) fn cose_edge_table_verify(

@@ -4,7 +4,7 @@ use crate::block::Memory;
 use crate::error::number;
 use crate::{raw, Block, Claims, Error, Options, Policy, Verdict};
 
-/// Memory for a [`KeyTable`].
+/// Memory for a [`KeyTable`] or a [`TermsTable`](crate::TermsTable).
 pub type TableBlock = Block<16_384>;
 
 /// A key set whose keys are read once, for many messages: at most 64 usable keys. It borrows its memory and the bytes of the set. It

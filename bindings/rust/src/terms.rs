@@ -209,7 +209,7 @@ impl Terms<'_> {
 
 impl Requirements<'_> {
     /// As the library has them. What is returned borrows what the requirements borrow.
-    fn raw(&self) -> Result<raw::Requirements, Error> {
+    pub(crate) fn raw(&self) -> Result<raw::Requirements, Error> {
         let (iss, sub, aud) = (
             named(self.issuer)?,
             named(self.subject)?,
@@ -237,7 +237,10 @@ impl Requirements<'_> {
 }
 
 /// The claims that the library gives, of these bytes.
-fn admitted<'t>(claims: &raw::Claims, bytes: &'t [u8]) -> Result<Claims<'t>, NotAdmitted> {
+pub(crate) fn admitted<'t>(
+    claims: &raw::Claims,
+    bytes: &'t [u8],
+) -> Result<Claims<'t>, NotAdmitted> {
     if claims.status == number::UNMET {
         let requirement = Requirement::from_number(claims.reason).ok_or(Error::OtherLibrary)?;
         return Err(NotAdmitted::Unmet {

@@ -5,7 +5,7 @@ use Rattle.cose_head.specs.declared.reason.Reason.TheVariants.{Trailing}
 use Rattle.cose_head.specs.declared.refusal.Refusal.{Refusal}
 use Rattle.cose_head.specs.Further.{further_number, okp_curve_number}
 use Rattle.cose_map.specs.Key.Okp.{OkpValue}
-use Rattle.cose_msg.specs.Further.{Asked, asked_of, detached_setting}
+use Rattle.cose_msg.specs.Further.{Asked, asked_of}
 use Rattle.cose_msg.specs.Message.{Setting}
 use Rattle.cose_c.specs.declared.eddsa.CoseEddsaInput.{CoseEddsaInput}
 use Rattle.cose_c.specs.declared.elsewhere.CoseFrontPieces.{CoseFrontPieces}
@@ -23,10 +23,6 @@ abbrev pub asked_given : ℕ → ℕ → Result Setting CoseStatus → List OkpV
 asked_given room nesting (Ok setting) keys bytes = unless_refused (asked_of room nesting setting keys bytes)
 asked_given room nesting (Err status) keys bytes = Err status
 
-abbrev pub beside_it : List ℕ → Result Setting CoseStatus → Result Setting CoseStatus
-beside_it payload (Ok setting) = Ok (detached_setting payload setting)
-beside_it payload (Err status) = Err status
-
 -- The signature is the caller's to verify (2), and its head stands here; or a byte follows the message, which is Trailing (3).
 abbrev pub status_before : ℕ → Option ℕ → CoseStatus
 status_before place None = record { status = 2; reason = 0; place = place }
@@ -36,8 +32,8 @@ abbrev pub eddsa_status : Result Asked CoseStatus → CoseStatus
 eddsa_status (Ok asked) = status_before asked.auth_at asked.trailing
 eddsa_status (Err status) = status
 
-abbrev pub status_in : CoseEddsaInput → CoseStatus
-status_in input = record { status = input.status; reason = input.reason; place = input.place }
+abbrev pub input_status : CoseEddsaInput → CoseStatus
+input_status input = record { status = input.status; reason = input.reason; place = input.place }
 
 -- The key, the algorithm and the signature; and the pieces, joined, are with the payload after them the structure that is signed.
 pub record GivesAsked (aad : List ℕ) (asked : Asked) (pieces : CoseFrontPieces) (input : CoseEddsaInput) : Type 0 where

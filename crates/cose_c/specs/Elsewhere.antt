@@ -18,26 +18,26 @@ use Rattle.cose_c.specs.Numbers.{plain_status}
 use Rattle.cose_c.specs.Stream.{Content, HasRead, block_status}
 
 -- It is opened in this setting for a caller that authenticates, and has taken nothing; or it isn't opened, whatever it was before.
-abbrev pub IsOpenedElsewhere : {H D : ℕ} → Result Setting CoseStatus → Content H D → Type 0
+abbrev pub IsOpenedElsewhere : {H D : ℕ} {S : Type 0} {K : _} → Result Setting CoseStatus → Content H D S K → Type 0
 IsOpenedElsewhere (Ok setting) content = HasRead (to_verify_elsewhere setting) [] [] content
 IsOpenedElsewhere (Err status) content = content ≡ None
 
 -- Of a block whose message the caller authenticates: whatever its setting is, and whatever bytes it has taken, with the payload so far.
-abbrev pub WhateverRead : {H D : ℕ} → Content H D → (Setting → List ℕ → List ℕ → Type 0) → Type 0
+abbrev pub WhateverRead : {H D : ℕ} {S : Type 0} {K : _} → Content H D S K → (Setting → List ℕ → List ℕ → Type 0) → Type 0
 WhateverRead content fact = (setting : Setting) (taken payload : List ℕ) → HasRead (to_verify_elsewhere setting) taken payload content → fact setting taken payload
 
 -- Whether the block's message is authenticated elsewhere, and what was read of it suffices to begin with that.
-abbrev pub is_asked : {H D : ℕ} → Content H D → Bool
+abbrev pub is_asked : {H D : ℕ} {S : Type 0} {K : _} → Content H D S K → Bool
 is_asked None = false
 is_asked (Some v) = is_asking v && is_framed v
 
 -- Whether all bytes are there of such a message.
-abbrev pub is_ready : {H D : ℕ} → Content H D → Bool
+abbrev pub is_ready : {H D : ℕ} {S : Type 0} {K : _} → Content H D S K → Bool
 is_ready None = false
 is_ready (Some v) = is_complete (status_in v) && is_asking v
 
 -- Whether the caller's answer about a signature is wanted too, and no verdict is known.
-abbrev pub wants_answer : {H D : ℕ} → Content H D → Bool
+abbrev pub wants_answer : {H D : ℕ} {S : Type 0} {K : _} → Content H D S K → Bool
 wants_answer None = false
 wants_answer (Some v) = is_complete (status_in v) && is_asking v && asks_about_signature v
 
@@ -50,7 +50,7 @@ pieces_given protected aad p = take p.context_length p.context ∷ take p.protec
 
 -- Joined, and with the payload after them, they are the structure that is authenticated (RFC 9052 sections 4.4 and 6.3): however the
 -- message goes on.
-abbrev pub GivesFront : {H D : ℕ} → Content H D → List ℕ → CoseFrontPieces → Type 0
+abbrev pub GivesFront : {H D : ℕ} {S : Type 0} {K : _} → Content H D S K → List ℕ → CoseFrontPieces → Type 0
 GivesFront {H} {D} content protected pieces =
     WhateverRead content (λ setting taken payload.
     HoweverItGoesOn H D setting taken payload (λ reading. IsFrontOf setting.aad reading (concat (pieces_given protected setting.aad pieces))))
@@ -83,7 +83,7 @@ pub record GivesKey (found : Chosen) (asked : CoseAskedKey) : Type 0 where
   pub material : GivesMaterial found.key.material asked
 
 -- It is the key that is chosen, however the message goes on.
-abbrev pub GivesChosen : {H D : ℕ} → Content H D → CoseAskedKey → Type 0
+abbrev pub GivesChosen : {H D : ℕ} {S : Type 0} {K : _} → Content H D S K → CoseAskedKey → Type 0
 GivesChosen {H} {D} content asked =
     (found : Chosen) × GivesKey found asked × WhateverRead content (λ setting taken payload. HoweverItGoesOn H D setting taken payload (λ reading. AsksKey reading found))
 
@@ -97,12 +97,12 @@ GivesSignature answer asked = (signature : List ℕ) × Gives signature asked.si
 
 -- What a caller gets that states something too early, or of a message that isn't authenticated elsewhere: the block's status, and 12
 -- where all bytes are there.
-abbrev pub status_unasked : {H D : ℕ} → Content H D → CoseStatus
+abbrev pub status_unasked : {H D : ℕ} {S : Type 0} {K : _} → Content H D S K → CoseStatus
 status_unasked None = plain_status 10
 status_unasked (Some v) = if is_complete (status_in v) then plain_status 12 else block_status (Some v)
 
 -- Of a block that has read a whole message, about which no verdict is known: whatever its setting and its bytes are, and the key.
-abbrev pub WhateverWhole : {H D : ℕ} → Content H D → (Setting → List ℕ → Chosen → Type 0) → Type 0
+abbrev pub WhateverWhole : {H D : ℕ} {S : Type 0} {K : _} → Content H D S K → (Setting → List ℕ → Chosen → Type 0) → Type 0
 WhateverWhole {H} {D} content fact =
     (setting : Setting) (taken payload : List ℕ) (found : Chosen) (whole : Whole) → HasRead (to_verify_elsewhere setting) taken payload content →
     IsWhole H D setting taken found whole → is_ready content ≡ true → is_asked content ≡ true → fact setting taken found

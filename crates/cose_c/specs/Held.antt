@@ -8,6 +8,10 @@ use Rattle.cose_c.specs.declared.held.large_verifier.CoseLargeVerifier.{CoseLarg
 use Rattle.cose_c.specs.declared.held.large_verifier.HeldLargeVerifier.{HeldLargeVerifier}
 use Rattle.cose_c.specs.contracts.held.large_verifier.CoseLargeVerifier.{the_row as large_verifier_handle}
 use Rattle.cose_c.specs.contracts.held.large_verifier.HeldLargeVerifier.{the_row as held_large_verifier}
+use Rattle.cose_c.specs.declared.held.device_verifier.CoseDeviceVerifier.{CoseDeviceVerifier}
+use Rattle.cose_c.specs.declared.held.device_verifier.HeldDeviceVerifier.{HeldDeviceVerifier}
+use Rattle.cose_c.specs.contracts.held.device_verifier.CoseDeviceVerifier.{the_row as device_verifier_handle}
+use Rattle.cose_c.specs.contracts.held.device_verifier.HeldDeviceVerifier.{the_row as held_device_verifier}
 use Rattle.cose_c.specs.declared.held.maker.CoseMaker.{CoseMaker}
 use Rattle.cose_c.specs.declared.held.maker.HeldMaker.{HeldMaker}
 use Rattle.cose_c.specs.contracts.held.maker.CoseMaker.{the_row as maker_handle}
@@ -34,6 +38,12 @@ with_large_verifier handle held = record handle { value = held }
 
 abbrev pub LendsLargeVerifier : MutBor CoseLargeVerifier → MutBor HeldLargeVerifier → Fml
 LendsLargeVerifier handle held = Lends large_verifier_handle held_large_verifier handle held (with_large_verifier handle.now)
+
+abbrev pub with_device_verifier : CoseDeviceVerifier → HeldDeviceVerifier → CoseDeviceVerifier
+with_device_verifier handle held = record handle { value = held }
+
+abbrev pub LendsDeviceVerifier : MutBor CoseDeviceVerifier → MutBor HeldDeviceVerifier → Fml
+LendsDeviceVerifier handle held = Lends device_verifier_handle held_device_verifier handle held (with_device_verifier handle.now)
 
 abbrev pub with_table : CoseTable → HeldTable → CoseTable
 with_table handle held = record handle { value = held }

@@ -20,5 +20,6 @@ pub mod Claims
 pub mod Item
 pub mod Parameter
 pub mod Table
+pub mod TableUnder
 pub mod Make
 pub mod Sign

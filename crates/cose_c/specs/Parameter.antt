@@ -37,14 +37,14 @@ parameter_named room nesting given is_protected name bytes =
 
 -- ---- of a message that a block has taken, or some of it
 
-abbrev pub bucket_by : {H D : ℕ} → Bool → Content H D → Option (List Pair)
+abbrev pub bucket_by : {H D : ℕ} {S : Type 0} {K : _} → Bool → Content H D S K → Option (List Pair)
 bucket_by is_protected None = None
 bucket_by is_protected (Some v) = if is_protected then protected_of v else unprotected_of v
 
-abbrev pub parameter_by : {H D : ℕ} → Bool → LabelValue → Content H D → Option Placed
+abbrev pub parameter_by : {H D : ℕ} {S : Type 0} {K : _} → Bool → LabelValue → Content H D S K → Option Placed
 parameter_by is_protected label content = parameter_in label (bucket_by is_protected content)
 
-abbrev pub parameter_named_by : {H D : ℕ} → Bool → List ℕ → Content H D → Option Placed
+abbrev pub parameter_named_by : {H D : ℕ} {S : Type 0} {K : _} → Bool → List ℕ → Content H D S K → Option Placed
 parameter_named_by is_protected name content = option_and_then (λ label. parameter_by is_protected label content) (words_of name)
 
 -- Room that has the bytes of an item, as many as it has room for.

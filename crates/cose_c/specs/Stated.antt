@@ -10,14 +10,13 @@ use Rattle.cose_msg.specs.declared.context.Context.{Context}
 use Rattle.cose_msg.specs.declared.context.Wanted.{Wanted}
 use Rattle.cose_msg.specs.Message.{Setting}
 use Rattle.cose_msg.specs.Source.{attached}
-use Rattle.cose_msg.specs.Verifier.{setting_of}
 use Rattle.cose_c.specs.declared.numbers.CoseStatus.{CoseStatus}
 use Rattle.cose_c.specs.declared.permitted.PermittedKeys.{PermittedKeys}
 use Rattle.cose_c.specs.declared.stated.CoseTerms.{CoseTerms}
 use Rattle.cose_c.specs.Numbers.{plain_status, refused_status}
 use Rattle.cose_c.specs.Permitted.{PermissionValue, permitted_in}
 use Rattle.cose_c.specs.PermittedView.{keys_permitted}
-use Rattle.cose_c.specs.Terms.{kinds_given}
+use Rattle.cose_c.specs.Terms.{kinds_given, settings_by}
 
 -- A flag, which is a power of two, among others.
 abbrev pub has_flag : ℕ → ℕ → Bool
@@ -79,5 +78,4 @@ setting_fed terms = if nat_lt 0 (count_before_zero terms.understood) then Err (p
 
 -- The same, as the code has it.
 abbrev pub settings_stated : Result (Context PermittedKeys) CoseStatus → Result Setting CoseStatus
-settings_stated (Ok context) = Ok (setting_of keys_permitted context)
-settings_stated (Err status) = Err status
+settings_stated given = settings_by keys_permitted given

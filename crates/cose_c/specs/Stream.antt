@@ -18,22 +18,17 @@ use Rattle.cose_msg.specs.Task.{Task, rules_of, to_verify}
 use Rattle.cose_msg.specs.Verifier.{detaching, task_of}
 use Rattle.cose_c.specs.declared.numbers.CoseStatus.{CoseStatus}
 use Rattle.cose_c.specs.declared.numbers.CoseVerdict.{CoseVerdict}
-use Rattle.cose_c.specs.declared.permitted.PermittedKeys.{PermittedKeys}
 use Rattle.cose_c.specs.declared.stream.CoseFed.{CoseFed}
 use Rattle.cose_c.specs.Numbers.{always_authentic, plain_status, refused_status, verdict_numbers}
-use Rattle.cose_c.specs.PermittedView.{keys_permitted}
 
--- What the keys mean that a block is given: those of a set that are permitted.
-abbrev pub meaning : Ghosts PermittedKeys
-meaning = record { usable = keys_permitted }
-
--- The verifier, of header buckets of at most so many bytes, nested at most so deep; none where the block isn't opened.
-abbrev pub Content : ℕ → ℕ → Type 0
-Content room nesting = Option (Verifier room nesting PermittedKeys meaning)
+-- The verifier, of header buckets of at most so many bytes, nested at most so deep, under keys of this type and what they mean; none where
+-- the block isn't opened.
+abbrev pub Content : ℕ → ℕ → (S : Type 0) → Ghosts S → Type 0
+Content room nesting S K = Option (Verifier room nesting S K)
 
 -- It has taken these bytes of a message, the payload's among them (or apart from them, where it is detached), and its getters give what
 -- their reading gives. A block that isn't opened has taken none.
-abbrev pub HasRead : {H D : ℕ} → Task → List ℕ → List ℕ → Content H D → Type 0
+abbrev pub HasRead : {H D : ℕ} {S : Type 0} {K : _} → Task → List ℕ → List ℕ → Content H D S K → Type 0
 HasRead task taken payload None = ⊥
 HasRead task taken payload (Some v) = HasTaken task taken payload v × ShowsReading task taken v
 
@@ -45,7 +40,7 @@ opening_status (Ok setting) = plain_status 0
 opening_status (Err status) = status
 
 -- It is opened in this setting, and has taken nothing; or it isn't opened, whatever it was before.
-abbrev pub IsOpened : {H D : ℕ} → Result Setting CoseStatus → Content H D → Type 0
+abbrev pub IsOpened : {H D : ℕ} {S : Type 0} {K : _} → Result Setting CoseStatus → Content H D S K → Type 0
 IsOpened (Ok setting) content = HasRead (to_verify setting) [] [] content
 IsOpened (Err status) content = content ≡ None
 
@@ -71,23 +66,23 @@ abbrev pub status_after : ℕ → ℕ → Task → List ℕ → Status
 status_after room nesting task taken = status_of_reading (reading_of room nesting task taken)
 
 -- The status of a block: 10 where it isn't opened.
-abbrev pub block_status : {H D : ℕ} → Content H D → CoseStatus
+abbrev pub block_status : {H D : ℕ} {S : Type 0} {K : _} → Content H D S K → CoseStatus
 block_status None = plain_status 10
 block_status (Some v) = status_numbers (status_in v)
 
 -- Whether bytes of the message are wanted, whether any are, and whether there is a verdict to ask for.
-abbrev pub wants_more : {H D : ℕ} → Content H D → Bool
+abbrev pub wants_more : {H D : ℕ} {S : Type 0} {K : _} → Content H D S K → Bool
 wants_more None = false
 wants_more (Some v) = is_more (status_in v)
 
-abbrev pub wants_any : {H D : ℕ} → Content H D → Bool
+abbrev pub wants_any : {H D : ℕ} {S : Type 0} {K : _} → Content H D S K → Bool
 wants_any None = false
 wants_any (Some v) = is_open (status_in v)
 
-abbrev pub is_decidable : {H D : ℕ} → Verifier H D PermittedKeys meaning → Bool
+abbrev pub is_decidable : {H D : ℕ} {S : Type 0} {K : _} → Verifier H D S K → Bool
 is_decidable v = is_complete (status_in v) && not (is_inspecting v)
 
-abbrev pub has_verdict : {H D : ℕ} → Content H D → Bool
+abbrev pub has_verdict : {H D : ℕ} {S : Type 0} {K : _} → Content H D S K → Bool
 has_verdict None = false
 has_verdict (Some v) = is_decidable v
 
@@ -102,25 +97,25 @@ payload_fed fed piece = part_of piece fed.payload_at (fed.payload_at + fed.paylo
 
 -- ---- numbers, which are 0 where the block isn't opened
 
-abbrev pub wanted_by : {H D : ℕ} → Content H D → ℕ
+abbrev pub wanted_by : {H D : ℕ} {S : Type 0} {K : _} → Content H D S K → ℕ
 wanted_by None = 0
 wanted_by (Some v) = wanted_in v
 
-abbrev pub payload_wanted_by : {H D : ℕ} → Content H D → ℕ
+abbrev pub payload_wanted_by : {H D : ℕ} {S : Type 0} {K : _} → Content H D S K → ℕ
 payload_wanted_by None = 0
 payload_wanted_by (Some v) = payload_wanted_in v
 
-abbrev pub taken_by : {H D : ℕ} → Content H D → ℕ
+abbrev pub taken_by : {H D : ℕ} {S : Type 0} {K : _} → Content H D S K → ℕ
 taken_by None = 0
 taken_by (Some v) = bytes_taken v
 
-abbrev pub held_by : {H D : ℕ} → Content H D → ℕ
+abbrev pub held_by : {H D : ℕ} {S : Type 0} {K : _} → Content H D S K → ℕ
 held_by None = 0
 held_by (Some v) = held v
 
 -- ---- the verdict
 
-abbrev pub signed_by : {H D : ℕ} → Content H D → Option SignInput
+abbrev pub signed_by : {H D : ℕ} {S : Type 0} {K : _} → Content H D S K → Option SignInput
 signed_by None = None
 signed_by (Some v) = sign_input_of v
 
@@ -128,12 +123,12 @@ signed_by (Some v) = sign_input_of v
 abbrev pub says_good : ℤ → Bool
 says_good number = int_eq number (pos 1)
 
-abbrev pub answer_kept_by : {H D : ℕ} → Content H D → Option (Result Verdict Stop)
+abbrev pub answer_kept_by : {H D : ℕ} {S : Type 0} {K : _} → Content H D S K → Option (Result Verdict Stop)
 answer_kept_by None = None
 answer_kept_by (Some v) = kept_answer v
 
 -- The verdict that a caller gets is the one that the block keeps.
-abbrev pub Keeps : {H D : ℕ} → CoseVerdict → Content H D → Type 0
+abbrev pub Keeps : {H D : ℕ} {S : Type 0} {K : _} → CoseVerdict → Content H D S K → Type 0
 Keeps verdict content = (kept : Verdict) × (answer_kept_by content ≡ Some (Ok kept)) × (verdict ≡ verdict_numbers always_authentic 0 (decided kept))
 
 -- ---- the next message
@@ -143,11 +138,11 @@ abbrev pub following : ℕ → ℕ
 following message = if message == 2 ^ 64 - 1 then 0 else message + 1
 
 -- What the verifier was made for.
-abbrev pub task_by : {H D : ℕ} → Content H D → Option Task
+abbrev pub task_by : {H D : ℕ} {S : Type 0} {K : _} → Content H D S K → Option Task
 task_by None = None
 task_by (Some v) = Some (task_of v)
 
 -- It has taken nothing of the next message, under the same keys. A block that isn't opened stays so.
-abbrev pub IsAnew : {H D : ℕ} → Option Task → Content H D → Type 0
+abbrev pub IsAnew : {H D : ℕ} {S : Type 0} {K : _} → Option Task → Content H D S K → Type 0
 IsAnew None content = content ≡ None
 IsAnew (Some task) content = HasRead task [] [] content

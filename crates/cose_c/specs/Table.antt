@@ -3,7 +3,7 @@ use Rattle.std.specs.Borrow.{Bor}
 use Rattle.std.specs.Prelude.{ℕ, List, Option, Some, None, Result, Ok, Err, option_map}
 use Rattle.cose_map.specs.declared.key_table.KeyTable.{KeyTable}
 use Rattle.cose_map.specs.Key.Value.{KeyValue}
-use Rattle.cose_map.specs.KeyTable.{keys}
+use Rattle.cose_map.specs.KeyTable.{keys as keys_of_table}
 use Rattle.cose_map.specs.Map.Read.{Read}
 use Rattle.cose_msg.specs.declared.context.Context.{Context}
 use Rattle.cose_msg.specs.Message.{Setting}
@@ -14,7 +14,7 @@ use Rattle.cose_c.specs.Terms.{kinds_given, setting_with}
 
 -- The keys of the table; none where the block isn't read.
 abbrev pub keys_in : Option (KeyTable 64) → Option (List KeyValue)
-keys_in content = option_map keys content
+keys_in content = option_map keys_of_table content
 
 -- Those that a reading leaves in a block: none where the key set is refused.
 abbrev pub keys_read : Read (List KeyValue) → Option (List KeyValue)
@@ -28,5 +28,5 @@ setting_under_table (Some found) aad wanted = setting_with (Ok found) aad (kinds
 
 -- The same, as the code has it.
 abbrev pub table_settings : Result (Context (Bor (KeyTable 64))) CoseStatus → Result Setting CoseStatus
-table_settings (Ok context) = Ok (setting_of (λ table. keys table.now) context)
+table_settings (Ok context) = Ok (setting_of (λ table. keys_of_table table.now) context)
 table_settings (Err status) = Err status

@@ -48,7 +48,11 @@ setting_with (Ok keys) aad (Ok kinds) = Ok (setting_under keys aad kinds)
 abbrev pub setting_given : Read (List KeyValue) → List ℕ → ℕ → Result Setting CoseStatus
 setting_given keys aad wanted = setting_with keys aad (kinds_given aad wanted)
 
--- The same, as the code has it.
+-- The same, as the code has it, by what its keys mean.
+abbrev pub settings_by : {S : Type 0} → (S → List KeyValue) → Result (Context S) CoseStatus → Result Setting CoseStatus
+settings_by meaning (Ok context) = Ok (setting_of meaning context)
+settings_by meaning (Err status) = Err status
+
+-- Of a key set.
 abbrev pub settings_in : Result (Context KeySet) CoseStatus → Result Setting CoseStatus
-settings_in (Ok context) = Ok (setting_of usable context)
-settings_in (Err status) = Err status
+settings_in given = settings_by usable given

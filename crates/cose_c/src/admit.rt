@@ -98,7 +98,7 @@ fn claims_after(
 }
 
 /// The claims of a token, by a verifier that has taken none of it.
-fn claims_of_token<'k, const H: usize, const D: usize, K: Keys<'k>>(
+pub(crate) fn claims_of_token<'k, const H: usize, const D: usize, K: Keys<'k>>(
     verifier: &mut Verifier<'k, H, D, K>,
     token: &[u8],
     required: &Required<'_>,

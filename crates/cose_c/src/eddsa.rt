@@ -8,8 +8,9 @@ ghost use Rattle.cose_map.specs.KeySet.Okp.{okp_keys_of};
 ghost use Rattle.cose_msg.specs.Further.{Asked};
 ghost use Rattle.cose_msg.specs.FrontPieces.{piece_at, pieces_of};
 ghost use Rattle.cose_msg.specs.FurtherView.{asked_result, asked_value};
-ghost use Rattle.cose_c.specs.Eddsa.{GivesAsked, GivesEddsa, asked_given, beside_it, eddsa_status, status_before, status_in, unless_refused};
+ghost use Rattle.cose_c.specs.Eddsa.{GivesAsked, GivesEddsa, asked_given, eddsa_status, input_status, status_before, unless_refused};
 ghost use Rattle.cose_c.specs.Elsewhere.{pieces_given};
+ghost use Rattle.cose_c.specs.Message.{beside};
 ghost use Rattle.cose_c.specs.Terms.{setting_given};
 
 use crate::elsewhere::{CoseFrontPieces, octets_of};
@@ -73,7 +74,7 @@ fn number_of_alg(alg: FurtherAlg) -> i32
 
 /// The numbers and ranges of a call that asks nothing.
 fn nothing_asked<'k>(status: CoseStatus) -> CoseEddsaInput<'k>
-    ensures { status_in result ≡ status }
+    ensures { input_status result ≡ status }
 {
     CoseEddsaInput {
         status: status.status,
@@ -110,7 +111,7 @@ fn give_pieces(front: &FrontPieces<'_>, pieces: &mut CoseFrontPieces)
 /// What is asked of a message, or the refusal of one that a byte follows.
 fn input_of<'k>(ask: &FurtherAsk<'k>, pieces: &mut CoseFrontPieces) -> CoseEddsaInput<'k>
     requires context { length (piece_at 0 (pieces_of ask.now.front)) ≤ 12 }
-    ensures status { status_in result
+    ensures status { input_status result
         ≡ status_before (asked_value ask.now).auth_at (asked_value ask.now).trailing }
     ensures input { (aad : List ℕ) → piece_at 4 (pieces_of ask.now.front) ≡ aad
         → result.status ≡ 2 → GivesAsked aad (asked_value ask.now) pieces.new result }
@@ -140,7 +141,7 @@ fn input_or_refusal<'k>(
     pieces: &mut CoseFrontPieces,
 ) -> CoseEddsaInput<'k>
     requires context { IfOk asked.now (λ ask. length (piece_at 0 (pieces_of ask.front)) ≤ 12) }
-    ensures status { status_in result
+    ensures status { input_status result
         ≡ eddsa_status (unless_refused (Some (asked_result asked.now))) }
     ensures input { (aad : List ℕ)
         → IfOk asked.now (λ ask. piece_at 4 (pieces_of ask.front) ≡ aad) → result.status ≡ 2
@@ -165,7 +166,7 @@ pub extern "C" fn cose_edge_verify_eddsa(
     input: &mut CoseEddsaInput<'static>,
     pieces: &mut CoseFrontPieces,
 )
-    ensures status { status_in input.new ≡ eddsa_status
+    ensures status { input_status input.new ≡ eddsa_status
         (asked_given 1024 8 (setting_given (keys_of keys.now) aad.now wanted)
         (okp_keys_of keys.now) message.now) }
     ensures input { input.new.status ≡ 2 → GivesEddsa aad.now
@@ -193,13 +194,13 @@ pub extern "C" fn cose_edge_verify_eddsa_detached(
     input: &mut CoseEddsaInput<'static>,
     pieces: &mut CoseFrontPieces,
 )
-    ensures status { status_in input.new ≡ eddsa_status
+    ensures status { input_status input.new ≡ eddsa_status
         (asked_given 1024 8
-        (beside_it payload.now (setting_given (keys_of keys.now) aad.now wanted))
+        (beside payload.now (setting_given (keys_of keys.now) aad.now wanted))
         (okp_keys_of keys.now) message.now) }
     ensures input { input.new.status ≡ 2 → GivesEddsa aad.now
         (asked_given 1024 8
-        (beside_it payload.now (setting_given (keys_of keys.now) aad.now wanted))
+        (beside payload.now (setting_given (keys_of keys.now) aad.now wanted))
         (okp_keys_of keys.now) message.now)
         pieces.new input.new }
 {

@@ -4,6 +4,7 @@
 //! has two functions that are proved by hand: `lend` gives the value for as long as the handle is borrowed, and `cose_..begin` writes
 //! the first value. A generic handle doesn't cross to C, so each type has its own pair, in the same words.
 
+pub(crate) mod device_verifier;
 pub(crate) mod large_verifier;
 pub(crate) mod maker;
 pub(crate) mod signer;

@@ -19,7 +19,7 @@ ghost use Rattle.cose_c.specs.Permitted.{PermissionValue, permitted_in, permitte
 ghost use Rattle.cose_c.specs.PermittedView.{keys_permitted, permission_value};
 
 use cose_head::{ItemRef, Items, Reason, Refusal};
-use cose_map::{Key, KeyMeaning, KeySet, KeyTable, Keys, Label, Material, Query};
+use cose_map::{Key, KeyMeaning, KeySet, KeyTable, Keys, Label, Material, Permits, Query};
 
 /// The number of HMAC 256/64 (RFC 9053 section 3.1), whose tag has 64 bits.
 const SHORT_MAC: i128 = 4;
@@ -122,6 +122,14 @@ impl Permission {
         ensures { result ≡ spec.permits (permission_value self.now) (key_value key.now) }
     {
         self.permits_algorithm(key) && self.permits_material(&key.material)
+    }
+}
+
+impl Permits for Permission {
+    ghost permitted = { λ permission. spec.permits (permission_value permission) };
+
+    fn permits(&self, key: &Key<'_>) -> bool {
+        Permission::permits(self, key)
     }
 }
 

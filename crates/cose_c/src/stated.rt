@@ -1,11 +1,11 @@
 //! What a caller states of messages, in one struct.
 
-ghost use Rattle.std.specs.Prelude.{◌≡◌, ◌≤◌, IfOk, length, map, take};
+ghost use Rattle.std.specs.Prelude.{◌≡◌, ◌≤◌, IfOk, length, map, not, take};
 ghost use Rattle.cose_map.specs.KeySet.{keys_of};
 ghost use Rattle.cose_map.specs.Label.{number};
 ghost use Rattle.cose_map.specs.Label.View.{label_value};
 ghost use Rattle.cose_c.specs.PermittedView.{permission_value};
-ghost use Rattle.cose_c.specs.Stated.{count_before_zero, has_flag, limit_stated, permission_stated, setting_fed, setting_under_terms, settings_stated};
+ghost use Rattle.cose_c.specs.Stated.{count_before_zero, has_flag, is_unknown, limit_stated, permission_stated, setting_fed, setting_under_terms, settings_stated};
 ghost use Rattle.cose_c.specs.Terms.{setting_given};
 
 use crate::numbers::{BAD_ARGUMENT, CoseStatus, KEYS_REFUSED, plain_status, refused_status};
@@ -66,7 +66,7 @@ pub(crate) fn labels_of(numbers: &[i64; 16]) -> [Label<'static>; 16]
 }
 
 /// How many numbers there are before the first zero.
-fn count_before_zero(numbers: &[i64]) -> usize
+pub(crate) fn count_before_zero(numbers: &[i64]) -> usize
     ensures count { result ≡ count_before_zero numbers.now }
     ensures few { result ≤ length numbers.now }
 {
@@ -81,7 +81,7 @@ fn count_before_zero(numbers: &[i64]) -> usize
 }
 
 /// The most bytes of a payload.
-fn payload_limit(stated: u64) -> u64
+pub(crate) fn payload_limit(stated: u64) -> u64
     ensures { result ≡ limit_stated stated }
 {
     if stated == 0 { PAYLOAD } else { stated }
@@ -99,6 +99,13 @@ pub(crate) fn permission(terms: &CoseTerms<'_>) -> Permission
     }
 }
 
+/// Whether the struct is of this version, and has no other flags than there are.
+pub(crate) fn is_known(terms: &CoseTerms<'_>) -> bool
+    ensures { result ≡ not (is_unknown terms.entry.now) }
+{
+    terms.size == TERMS_SIZE && terms.permitted <= SHORT_MAC + WITHOUT_ALG
+}
+
 /// What a message is verified under, where these labels are understood, or why none is.
 #[inline(never)]
 fn context_with<'t>(
@@ -109,7 +116,7 @@ fn context_with<'t>(
         ≡ setting_under_terms terms.entry.now (map label_value understood.entry.now) }
     ensures external { IfOk result (λ context. length context.aad.now ≤ 65535) }
 {
-    if terms.size != TERMS_SIZE || terms.permitted > SHORT_MAC + WITHOUT_ALG {
+    if !is_known(terms) {
         return Err(plain_status(BAD_ARGUMENT));
     }
     let wanted = kinds_wanted(terms.aad, terms.kind)?;

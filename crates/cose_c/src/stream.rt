@@ -1,4 +1,4 @@
-//! A verifier in a block, which is fed: for blocks of either size. A block that isn't opened answers [`CLOSED`](crate::numbers::CLOSED).
+//! A verifier in a block, which is fed: for blocks of any size. A block that isn't opened answers [`CLOSED`](crate::numbers::CLOSED).
 
 ghost use Rattle.std.specs.Prelude.{◌≡◌, ◌≤◌, IfOk, ◌+◌, ◌*◌, ℕ, true, false, List, [], ◌++◌, Some, Ok, length, min, take};
 ghost use Rattle.cose_msg.specs.declared.verdict.Verdict.{Verdict};
@@ -11,9 +11,10 @@ ghost use Rattle.cose_msg.specs.Task.{asks, Task, given_to, rules_of, to_verify}
 ghost use Rattle.cose_c.specs.Deciding.{deciding};
 ghost use Rattle.cose_c.specs.Input.{GivesAll, has_point};
 ghost use Rattle.cose_c.specs.Numbers.{always_authentic, no_message, verdict_numbers};
-ghost use Rattle.cose_c.specs.Stated.{settings_stated};
 ghost use Rattle.cose_c.specs.Stream.{HasRead, IsAnew, IsOpened, Keeps, answer_kept_by, block_status, detached_given, following, has_verdict, held_by, is_decidable, nothing_fed, opening_status, payload_fed, payload_wanted_by, reading_of, says_good, signed_by, status_after, status_numbers, taken_by, task_by, wanted_by, wants_any, wants_more};
+ghost use Rattle.cose_c.specs.Terms.{settings_by};
 
+mod device;
 mod large;
 mod small;
 
@@ -23,9 +24,8 @@ use crate::numbers::{
     AUTHENTIC, CLOSED, COMPLETE, CoseStatus, CoseVerdict, MORE, PAYLOAD_NEXT, REFUSED, STOPPED,
     accepted, no_message, plain_status, refused_status,
 };
-use crate::permitted::PermittedKeys;
 use cose_msg::laws::settled_stays;
-use cose_msg::{Context, Fed, Status, Verdict, Verifier};
+use cose_msg::{Context, Fed, Keys, Status, Verdict, Verifier};
 
 /// What was used of a piece.
 #[repr(C)]
@@ -93,16 +93,16 @@ pub(crate) fn following(message: u64) -> u64
 }
 
 /// Gives a block its verifier. Where that is refused, the block isn't opened, whatever it was before.
-pub(crate) fn open<'k, const H: usize, const D: usize>(
-    content: &mut Option<Verifier<'k, H, D, PermittedKeys<'k>>>,
-    context: Result<Context<'k, PermittedKeys<'k>>, CoseStatus>,
+pub(crate) fn open<'k, const H: usize, const D: usize, K: Keys<'k> + Drop>(
+    content: &mut Option<Verifier<'k, H, D, K>>,
+    context: Result<Context<'k, K>, CoseStatus>,
 ) -> CoseStatus
     requires some_room { 16 ≤ H }
     requires limit { H ≤ 65535 }
     requires nesting { D ≤ 32 }
     requires external { IfOk context (λ given. length given.aad.now ≤ 65535) }
-    ensures status { result ≡ opening_status (settings_stated context.entry) }
-    ensures opened { IsOpened (settings_stated context.entry) content.new }
+    ensures status { result ≡ opening_status (settings_by K.usable context.entry) }
+    ensures opened { IsOpened (settings_by K.usable context.entry) content.new }
 {
     match context {
         Ok(context) => {
@@ -117,17 +117,17 @@ pub(crate) fn open<'k, const H: usize, const D: usize>(
 }
 
 /// The same for messages whose payload is detached, and has so many bytes.
-pub(crate) fn open_detached<'k, const H: usize, const D: usize>(
-    content: &mut Option<Verifier<'k, H, D, PermittedKeys<'k>>>,
-    context: Result<Context<'k, PermittedKeys<'k>>, CoseStatus>,
+pub(crate) fn open_detached<'k, const H: usize, const D: usize, K: Keys<'k> + Drop>(
+    content: &mut Option<Verifier<'k, H, D, K>>,
+    context: Result<Context<'k, K>, CoseStatus>,
     payload_length: u64,
 ) -> CoseStatus
     requires some_room { 16 ≤ H }
     requires limit { H ≤ 65535 }
     requires nesting { D ≤ 32 }
     requires external { IfOk context (λ given. length given.aad.now ≤ 65535) }
-    ensures status { result ≡ opening_status (settings_stated context.entry) }
-    ensures opened { IsOpened (detached_given payload_length (settings_stated context.entry))
+    ensures status { result ≡ opening_status (settings_by K.usable context.entry) }
+    ensures opened { IsOpened (detached_given payload_length (settings_by K.usable context.entry))
         content.new }
 {
     match context {
@@ -143,8 +143,8 @@ pub(crate) fn open_detached<'k, const H: usize, const D: usize>(
 }
 
 /// Takes the next bytes of the message.
-pub(crate) fn feed<'k, const H: usize, const D: usize>(
-    content: &mut Option<Verifier<'k, H, D, PermittedKeys<'k>>>,
+pub(crate) fn feed<'k, const H: usize, const D: usize, K: Keys<'k>>(
+    content: &mut Option<Verifier<'k, H, D, K>>,
     piece: &[u8],
 ) -> CoseFed
     ensures uses { (task : Task) (taken payload : List ℕ) → HasRead task taken payload content.old
@@ -170,8 +170,8 @@ pub(crate) fn feed<'k, const H: usize, const D: usize>(
 }
 
 /// How many bytes of the message are to come for certain.
-pub(crate) fn wanted<'k, const H: usize, const D: usize>(
-    content: &Option<Verifier<'k, H, D, PermittedKeys<'k>>>,
+pub(crate) fn wanted<'k, const H: usize, const D: usize, K: Keys<'k>>(
+    content: &Option<Verifier<'k, H, D, K>>,
 ) -> u64
     ensures value { result ≡ wanted_by content.now }
     ensures reads { (task : Task) (taken payload : List ℕ) → HasRead task taken payload content.now
@@ -184,8 +184,8 @@ pub(crate) fn wanted<'k, const H: usize, const D: usize>(
 }
 
 /// How many bytes of a detached payload are to come.
-pub(crate) fn payload_wanted<'k, const H: usize, const D: usize>(
-    content: &Option<Verifier<'k, H, D, PermittedKeys<'k>>>,
+pub(crate) fn payload_wanted<'k, const H: usize, const D: usize, K: Keys<'k>>(
+    content: &Option<Verifier<'k, H, D, K>>,
 ) -> u64
     ensures value { result ≡ payload_wanted_by content.now }
     ensures reads { (task : Task) (taken payload : List ℕ) → HasRead task taken payload content.now
@@ -198,8 +198,8 @@ pub(crate) fn payload_wanted<'k, const H: usize, const D: usize>(
 }
 
 /// Takes the next bytes of a detached payload, as many as are wanted, and returns how many that was.
-pub(crate) fn feed_payload<'k, const H: usize, const D: usize>(
-    content: &mut Option<Verifier<'k, H, D, PermittedKeys<'k>>>,
+pub(crate) fn feed_payload<'k, const H: usize, const D: usize, K: Keys<'k>>(
+    content: &mut Option<Verifier<'k, H, D, K>>,
     piece: &[u8],
 ) -> u64
     ensures uses { result ≡ min (length piece.now) (payload_wanted_by content.old) }
@@ -216,8 +216,8 @@ pub(crate) fn feed_payload<'k, const H: usize, const D: usize>(
 }
 
 /// Says that no byte follows.
-pub(crate) fn end<'k, const H: usize, const D: usize>(
-    content: &mut Option<Verifier<'k, H, D, PermittedKeys<'k>>>,
+pub(crate) fn end<'k, const H: usize, const D: usize, K: Keys<'k>>(
+    content: &mut Option<Verifier<'k, H, D, K>>,
 ) -> CoseStatus
     ensures reads { (task : Task) (taken payload : List ℕ) → HasRead task taken payload content.old
         → result ≡ status_numbers (status_of_answer (reading_of H D task taken).answer) }
@@ -238,8 +238,8 @@ pub(crate) fn end<'k, const H: usize, const D: usize>(
 }
 
 /// Gives what the signature of a message is verified with, and returns whether there is one.
-pub(crate) fn sign_input<'k, const H: usize, const D: usize>(
-    content: &Option<Verifier<'k, H, D, PermittedKeys<'k>>>,
+pub(crate) fn sign_input<'k, const H: usize, const D: usize, K: Keys<'k>>(
+    content: &Option<Verifier<'k, H, D, K>>,
     input: &mut CoseSignInput,
 ) -> bool
     ensures value { result ≡ has_point (signed_by content.now) }
@@ -264,8 +264,8 @@ pub(crate) fn says_good(signature_is_good: i32) -> bool
 }
 
 /// Whether a message is complete, and isn't only inspected.
-fn is_decidable<'k, const H: usize, const D: usize>(
-    verifier: &Verifier<'k, H, D, PermittedKeys<'k>>,
+fn is_decidable<'k, const H: usize, const D: usize, K: Keys<'k>>(
+    verifier: &Verifier<'k, H, D, K>,
 ) -> bool
     ensures { result ≡ is_decidable verifier.now }
 {
@@ -273,8 +273,8 @@ fn is_decidable<'k, const H: usize, const D: usize>(
 }
 
 /// The verdict on a message that is complete, whose signature, if it has one, is good or isn't.
-pub(crate) fn verdict<'k, const H: usize, const D: usize>(
-    content: &mut Option<Verifier<'k, H, D, PermittedKeys<'k>>>,
+pub(crate) fn verdict<'k, const H: usize, const D: usize, K: Keys<'k>>(
+    content: &mut Option<Verifier<'k, H, D, K>>,
     is_good: bool,
 ) -> CoseVerdict
     ensures verdict { (setting : Setting) (taken payload : List ℕ)
@@ -316,8 +316,8 @@ pub(crate) fn verdict<'k, const H: usize, const D: usize>(
 }
 
 /// Begins the next message, under the same keys.
-pub(crate) fn reset<'k, const H: usize, const D: usize>(
-    content: &mut Option<Verifier<'k, H, D, PermittedKeys<'k>>>,
+pub(crate) fn reset<'k, const H: usize, const D: usize, K: Keys<'k>>(
+    content: &mut Option<Verifier<'k, H, D, K>>,
 )
     ensures anew { IsAnew (task_by content.old) content.new }
     ensures reads { (task : Task) (taken payload : List ℕ) → HasRead task taken payload content.old
@@ -329,8 +329,8 @@ pub(crate) fn reset<'k, const H: usize, const D: usize>(
 }
 
 /// The number of bytes of the message that were taken.
-pub(crate) fn taken<'k, const H: usize, const D: usize>(
-    content: &Option<Verifier<'k, H, D, PermittedKeys<'k>>>,
+pub(crate) fn taken<'k, const H: usize, const D: usize, K: Keys<'k>>(
+    content: &Option<Verifier<'k, H, D, K>>,
 ) -> u64
     ensures value { result ≡ taken_by content.now }
     ensures reads { (task : Task) (taken payload : List ℕ) → HasRead task taken payload content.now
@@ -343,8 +343,8 @@ pub(crate) fn taken<'k, const H: usize, const D: usize>(
 }
 
 /// How many bytes of the message are held, and 256 for the running hash.
-pub(crate) fn held<'k, const H: usize, const D: usize>(
-    content: &Option<Verifier<'k, H, D, PermittedKeys<'k>>>,
+pub(crate) fn held<'k, const H: usize, const D: usize, K: Keys<'k>>(
+    content: &Option<Verifier<'k, H, D, K>>,
 ) -> u64
     ensures value { result ≡ held_by content.now }
     ensures limit { result ≤ 2 * H + 512 }

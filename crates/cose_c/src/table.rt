@@ -1,6 +1,6 @@
 //! A table of keys in a block: it is read once, and many messages are verified under it.
 
-ghost use Rattle.std.specs.Prelude.{◌≡◌, ◌≤◌, true, IfOk, is_some, length};
+ghost use Rattle.std.specs.Prelude.{◌≡◌, ◌≤◌, true, IfOk, None, is_some, length};
 ghost use Rattle.cose_map.specs.KeySet.{keys_of};
 ghost use Rattle.cose_map.specs.KeyTable.{table_of};
 ghost use Rattle.cose_c.specs.Claims.{GivesToken, policy_given};
@@ -8,6 +8,9 @@ ghost use Rattle.cose_c.specs.Input.{GivesAll};
 ghost use Rattle.cose_c.specs.KeySet.{key_set_numbers};
 ghost use Rattle.cose_c.specs.Message.{Covers, input_given, is_accepted, payload_given, verdict_given};
 ghost use Rattle.cose_c.specs.Table.{keys_in, keys_read, setting_under_table, table_settings};
+
+pub(crate) mod kept;
+mod under;
 
 use crate::claims::{CosePolicy, claims_of_token};
 use crate::cose_claims::{CoseClaims, no_claims};
@@ -47,7 +50,7 @@ fn context<'k>(
 
 /// Gives a block a table without keys. It is never inlined: what it takes of the stack is free again when the keys are read.
 #[inline(never)]
-fn begin(content: &mut Option<KeyTable<'static, TABLE>>)
+pub(crate) fn begin(content: &mut Option<KeyTable<'static, TABLE>>)
     ensures { is_some content.new ≡ true }
 {
     *content = Some(KeyTable::new());
@@ -72,7 +75,7 @@ fn fill(content: &mut Option<KeyTable<'static, TABLE>>, keys: &'static [u8]) -> 
 }
 
 /// Reads the usable keys of a key set, at most 64, each of them once. Where the set is refused, or has more usable keys, the block has
-/// no table, whatever it had before.
+/// no table, whatever it had before; and it has no terms.
 ///
 /// The bytes of the key set stay as they are until the block is read again, or isn't used any more.
 #[unsafe(no_mangle)]
@@ -83,8 +86,11 @@ pub extern "C" fn cose_edge_table_read(
 )
     ensures numbers { key_set.new ≡ key_set_numbers (table_of 64 (keys_of keys.now)) }
     ensures keys { keys_in table.new.value.content ≡ keys_read (table_of 64 (keys_of keys.now)) }
+    ensures no_terms { table.new.value.stated ≡ None }
 {
-    *key_set = fill(&mut table.lend().content, keys);
+    let held = table.lend();
+    held.stated = None;
+    *key_set = fill(&mut held.content, keys);
 }
 
 /// Verifies a message in memory under the table's keys, as `cose_verify` does under those of a key set. A block that isn't read answers
@@ -110,7 +116,7 @@ pub extern "C" fn cose_edge_table_verify(
         (input_given 1024 8 (setting_under_table (keys_in table.old.value.content) aad.now wanted)
         message.now)
         input.new }
-    ensures same { table.new.value.content ≡ table.old.value.content }
+    ensures same { table.new.value ≡ table.old.value }
 {
     *verdict = match context(&table.lend().content, aad, wanted) {
         Ok(context) => {
@@ -133,7 +139,7 @@ pub extern "C" fn cose_edge_table_verify_cwt(
     ensures claims { GivesToken 1024 8
         (setting_under_table (keys_in table.old.value.content) aad.now 0)
         (policy_given policy.entry.now) token.now claims.new }
-    ensures same { table.new.value.content ≡ table.old.value.content }
+    ensures same { table.new.value ≡ table.old.value }
 {
     *claims = match context(&table.lend().content, aad, 0) {
         Ok(context) => {

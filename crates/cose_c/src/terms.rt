@@ -22,6 +22,12 @@ pub(crate) const LARGE_HEADER: usize = 65_535;
 /// How deep its items, and those of claims, may nest.
 pub(crate) const LARGE_NESTING: usize = 16;
 
+/// The most bytes of a header bucket, of the functions with `device` in their names.
+pub(crate) const DEVICE_HEADER: usize = 256;
+
+/// How deep its items may nest.
+pub(crate) const DEVICE_NESTING: usize = 4;
+
 /// The most bytes of the externally supplied data.
 pub(crate) const MOST_AAD: usize = 65_535;
 

@@ -37,3 +37,8 @@ allowed_of r keys = filter (allows r) keys
 abbrev pub allowed_in : RestrictionsValue → Read (List KeyValue) → Read (List KeyValue)
 allowed_in r (Ok keys) = Ok (allowed_of r keys)
 allowed_in r (Err refusal) = Err refusal
+
+-- The same by any rule.
+abbrev pub permitted_in : (KeyValue → Bool) → Read (List KeyValue) → Read (List KeyValue)
+permitted_in permitted (Ok keys) = Ok (filter permitted keys)
+permitted_in permitted (Err refusal) = Err refusal

@@ -2,6 +2,7 @@
 
 ghost use Rattle.std.specs.Prelude.{◌≤◌};
 
+mod permitted;
 mod restricted;
 pub mod slot;
 

@@ -81,4 +81,4 @@ pub use map::form::Form;
 pub use map::pairs::Pairs;
 pub use map::read::{check_map, read_map, refused};
 pub use prepared_table::PreparedTable;
-pub use restrictions::Restrictions;
+pub use restrictions::{Permits, Restrictions};

@@ -10,8 +10,9 @@ use crate::key_table::KeyTable;
 use crate::key_table::slot::Slot;
 use crate::keys::{KeyMeaning, Keys};
 use crate::prepared_table::prepared_key::PreparedKey;
+use crate::restrictions::Permits;
 use arrayvec::ArrayVec;
-use cose_head::{Alg, Reason};
+use cose_head::{Alg, Reason, Refusal};
 use cose_mac::Running;
 use std::fmt;
 
@@ -31,28 +32,78 @@ pub struct PreparedTable<'a, const N: usize> {
     prepared: ArrayVec<PreparedKey<'a>, N>,
 }
 
+/// Adds what the keys of a table are prepared as, where there is room: there are as many places as keys.
+fn prepare<'a, const N: usize>(
+    table: &KeyTable<'a, N>,
+    prepared: &mut ArrayVec<PreparedKey<'a>, N>,
+) {
+    for slot in table.slots() {
+        if let Slot::Taken(key) = slot {
+            if let Some(key) = PreparedKey::of(key) {
+                let _ = prepared.try_push(key);
+            }
+        }
+    }
+}
+
 impl<'a, const N: usize> PreparedTable<'a, N> {
+    ghost use Rattle.std.specs.Prelude.{◌≤◌, [], length, IfErr, OnErr};
     ghost use Rattle.cose_map.specs.Choice.{chosen};
     ghost use Rattle.cose_map.specs.Choice.Place.{place_of};
     ghost use Rattle.cose_map.specs.Choice.View.{question, found_value};
-    ghost use Rattle.std.specs.Prelude.{length};
-    ghost use Rattle.cose_map.specs.KeyTable.{keys};
+    ghost use Rattle.cose_map.specs.KeySet.{keys_of};
+    ghost use Rattle.cose_map.specs.KeyTable.{keys, table_of};
+    ghost use Rattle.cose_map.specs.Map.View.{seen_by};
     ghost use Rattle.cose_map.specs.PreparedTable.{prepared_keys};
+    ghost use Rattle.cose_map.specs.Restrictions.{permitted_in};
 
     /// The same keys, prepared.
     pub fn new(table: KeyTable<'a, N>) -> PreparedTable<'a, N>
         ensures { prepared_keys result ≡ keys table.entry }
     {
         let mut prepared = ArrayVec::new();
-        for slot in table.slots() {
-            if let Slot::Taken(key) = slot {
-                if let Some(key) = PreparedKey::of(key) {
-                    // There are as many places as keys.
-                    let _ = prepared.try_push(key);
-                }
-            }
-        }
+        prepare(&table, &mut prepared);
         PreparedTable { table, prepared }
+    }
+
+    /// A table without keys, in which [`PreparedTable::fill`] reads a key set. `N` is at most 256.
+    pub fn empty() -> PreparedTable<'a, N>
+        requires limit { N ≤ 256 }
+        ensures { prepared_keys result ≡ [] }
+    {
+        PreparedTable {
+            table: KeyTable::new(),
+            prepared: ArrayVec::new(),
+        }
+    }
+
+    /// Reads a key set into this table, in place of the keys that it has, as [`KeyTable::fill`] does, and prepares each: where the
+    /// table is, so that no copy of it is on the stack.
+    pub fn fill(&mut self, bytes: &'a [u8]) -> Result<(), Refusal>
+        requires { 1 ≤ N }
+        ensures exact { seen_by (λ _. prepared_keys self.new) result
+            ≡ table_of N (keys_of bytes.now) }
+        ensures none { OnErr result (prepared_keys self.new ≡ []) }
+        ensures within { IfErr result (λ refusal. refusal.place ≤ length bytes.now) }
+    {
+        self.prepared.clear();
+        self.table.fill(bytes)?;
+        prepare(&self.table, &mut self.prepared);
+        Ok(())
+    }
+
+    /// The same without the keys that a rule doesn't permit, as [`KeyTable::fill_permitted`] leaves them out.
+    pub fn fill_permitted<P: Permits>(&mut self, bytes: &'a [u8], rule: &P) -> Result<(), Refusal>
+        requires { 1 ≤ N }
+        ensures exact { seen_by (λ _. prepared_keys self.new) result
+            ≡ table_of N (permitted_in (P.permitted rule.now) (keys_of bytes.now)) }
+        ensures none { OnErr result (prepared_keys self.new ≡ []) }
+        ensures within { IfErr result (λ refusal. refusal.place ≤ length bytes.now) }
+    {
+        self.prepared.clear();
+        self.table.fill_permitted(bytes, rule)?;
+        prepare(&self.table, &mut self.prepared);
+        Ok(())
     }
 
     /// The number of usable keys.

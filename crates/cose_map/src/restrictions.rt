@@ -10,6 +10,18 @@ use crate::key::Key;
 use crate::key::material::Material;
 use crate::label::Label;
 
+/// Which of the usable keys a table takes: [`Restrictions`], or a rule of the caller's.
+pub trait Permits {
+    ghost use Rattle.std.specs.Prelude.{Bool};
+    ghost use Rattle.cose_map.specs.Key.Value.{KeyValue};
+
+    ghost permitted: { Self → KeyValue → Bool };
+
+    /// Whether a key may be used.
+    fn permits(&self, key: &Key<'_>) -> bool
+        ensures { result ≡ Self.permitted self.now (key_value key.now) };
+}
+
 /// Which of the usable keys may be used. By default all of them.
 #[derive(Clone, Copy, Debug, Default)]
 pub struct Restrictions<'r> {
@@ -58,5 +70,13 @@ impl Restrictions<'_> {
         ensures { result ≡ spec.allows (restrictions_value self.entry.now) (key_value key.now) }
     {
         self.allows_algorithm(key.alg) && self.allows_material(&key.material)
+    }
+}
+
+impl Permits for Restrictions<'_> {
+    ghost permitted = { λ restrictions. spec.allows (restrictions_value restrictions) };
+
+    fn permits(&self, key: &Key<'_>) -> bool {
+        self.allows(key)
     }
 }

@@ -92,12 +92,12 @@ fed came bytes =
     let reading : Reading = reading (verifying 1024 4 (record (under plain) { source = detached came 2 }) never) bytes in
     (status_of_reading reading, reading.payload_wanted, reading.wanted)
 
-none_came : Gives (fed []) (
+nothing_given : Gives (fed []) (
     (hex "d18443a10105a0", (More, 0, 1)) ∷
     (hex "d18443a10105a0 f6", (PayloadNext, 2, 0)) ∷
     (hex "d18443a10105a0 f6 40", (PayloadNext, 2, 0)) ∷ [])
 unfolding reading
-none_came = refl
+nothing_given = refl
 
 one_came : Gives (fed (hex "68")) ((hex "d18443a10105a0 f6", (PayloadNext, 1, 0)) ∷ [])
 unfolding reading

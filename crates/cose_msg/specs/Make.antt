@@ -8,7 +8,7 @@ use Rattle.cose_msg.specs.declared.make.MakeFault.TheVariants as faults
 use Rattle.cose_msg.specs.Intake.{TakesInAll}
 use Rattle.cose_msg.specs.Making.{fits_making, made}
 use Rattle.cose_msg.specs.Message.{secret_of}
-use Rattle.cose_msg.specs.Sink.{AppendsFront, IsFront}
+use Rattle.cose_msg.specs.Sink.{AppendsFront, IsPrefix}
 
 -- The message that is made under a key.
 abbrev pub made_under : Alg → KeyValue → Option (List ℕ) → List ℕ → List ℕ → List ℕ
@@ -83,7 +83,7 @@ TakesSome payload_length ended come_after (Err faults.TooLong) count = ⊥
 abbrev pub Grows : (List ℕ → List ℕ) → ℕ → Option (List ℕ) → Option (List ℕ) → Result ℕ MakeFault → List ℕ → Type 0
 Grows message payload_length contents contents_after (Ok n) taken = Appends contents contents_after (message taken) × (n ≡ length (message taken))
 Grows message payload_length contents contents_after (Err fault) taken =
-    (payload : List ℕ) → length payload ≡ payload_length → IsFront payload taken → AppendsFront contents contents_after (message payload)
+    (payload : List ℕ) → length payload ≡ payload_length → IsPrefix payload taken → AppendsFront contents contents_after (message payload)
 
 -- A call whose arguments have no fault has taken these bytes, to make the message of a payload of this length.
 pub record Makes (message : List ℕ → List ℕ) (payload_length : ℕ) (come come_after : Option (List ℕ)) (ended : Bool) (contents contents_after : Option (List ℕ)) (result : Result ℕ MakeFault) (taken : List ℕ) : Type 0 where

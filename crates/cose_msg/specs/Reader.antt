@@ -69,8 +69,8 @@ abbrev pub held_by : {H D : ℕ} → Reader H D → ℕ
 held_by v = length v.protected.items + length v.unprotected.items + length v.head.items + length v.auth.items + 256
 
 -- The task's terms, the buckets that are known, and what is open.
-abbrev pub Shows : {H D : ℕ} → Task → Findings → Reader H D → Type 0
-Shows {H} {D} task so_far v = (task_in task v ≡ task)
+abbrev pub HasFindings : {H D : ℕ} → Task → Findings → Reader H D → Type 0
+HasFindings {H} {D} task so_far v = (task_in task v ≡ task)
     × HoldsBucket D so_far.protected v.protected_at v.protected.items × HoldsBucket D so_far.unprotected v.unprotected_at v.unprotected.items
     × (opened_by v ≡ so_far.open_items)
 
@@ -143,7 +143,7 @@ IsOpened hashing aad known n = OpenedFor known.chosen hashing aad known.headers 
 
 -- The payload is next, of this length, and the hash was fed all of the structure that precedes it.
 pub record IsAtPayload {H D : ℕ} (task : Task) (known : Known) (v : Reader H D) (kind : Kind) (n : ℕ) : Type 0 where
-  pub shows : Shows task (headers_so_far known.headers []) v
+  pub shows : HasFindings task (headers_so_far known.headers []) v
   pub none : known.payload ≡ []
   pub key : HoldsKey task known v kind
   pub opened : IsOpened v.hashing task.setting.aad known n
@@ -225,7 +225,7 @@ HoldsIn task known so_far n v (phases.Shaped p) = (p.taken ≡ n) × (task.inspe
 pub record ReaderMeans {H D : ℕ} (task : Task) (payload : List ℕ) (n : ℕ) (v : Reader H D) (reading : List ℕ → Reading) : Type 0 where
   pub known : Known
   pub so_far : Findings
-  pub shows : Shows task so_far v
+  pub shows : HasFindings task so_far v
   pub payload_known : known.payload ≡ payload
   pub payload_so_far : so_far.payload ≡ payload
   pub holds : HoldsIn task known so_far n v v.phase

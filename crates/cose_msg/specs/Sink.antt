@@ -3,12 +3,12 @@ use Rattle.std.specs.Prelude.{◌≡◌, ℕ, List, ◌++◌, Option, Result, Ok
 use Rattle.std.specs.Io.KnownBytes.{Appends}
 
 -- the bytes begin with this prefix
-abbrev pub IsFront : List ℕ → List ℕ → Type 0
-IsFront bytes front = (rest : List ℕ) × (bytes ≡ front ++ rest)
+abbrev pub IsPrefix : List ℕ → List ℕ → Type 0
+IsPrefix bytes prefix = (rest : List ℕ) × (bytes ≡ prefix ++ rest)
 
 -- known contents grow by a prefix of the bytes
 abbrev pub AppendsFront : Option (List ℕ) → Option (List ℕ) → List ℕ → Type 0
-AppendsFront old new bytes = (front : List ℕ) × IsFront bytes front × Appends old new front
+AppendsFront old new bytes = (front : List ℕ) × IsPrefix bytes front × Appends old new front
 
 -- Ok appends the whole piece, a failure a prefix of it.
 abbrev pub Puts : {E : Type 0} → Option (List ℕ) → Option (List ℕ) → Result (Unit {0}) E → List ℕ → Type 0

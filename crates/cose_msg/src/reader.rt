@@ -66,7 +66,7 @@ impl<'k, const H: usize, const D: usize> Reader<'k, H, D> {
     ghost use Rattle.std.specs.Prelude.{◌≡◌, ℕ, List, [], ◌∷◌, ◌++◌, ◌+◌, None, length, take, true, false};
     ghost use Rattle.cose_msg.specs.Message.{message};
     ghost use Rattle.cose_msg.specs.Phase.{grown, in_payload, is_settled, takes_bytes, want_of};
-    ghost use Rattle.cose_msg.specs.Reader.{IsUntouched, Shows, ReaderMeans, held_by, keys_in};
+    ghost use Rattle.cose_msg.specs.Reader.{IsUntouched, HasFindings, ReaderMeans, held_by, keys_in};
     ghost use Rattle.cose_msg.specs.Reading.{Reading, stop, Findings};
     ghost use Rattle.cose_msg.specs.Source.{IsStated};
     ghost use Rattle.cose_msg.specs.Shown.{shown_by, shown_in};
@@ -125,7 +125,7 @@ impl<'k, const H: usize, const D: usize> Reader<'k, H, D> {
     /// Refuses the message.
     fn refuse(&mut self, reason: Reason, place: u64)
         ensures { (task : Task) (payload : List ℕ) (n : ℕ) (so_far : Findings)
-            → Shows task so_far self.old
+            → HasFindings task so_far self.old
             → so_far.payload ≡ payload
             → ReaderMeans task payload n self.new (λ more. stop so_far reason place) }
     {

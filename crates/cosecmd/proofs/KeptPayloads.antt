@@ -25,7 +25,7 @@ use Rattle.cosecmd.specs.Vouch.{vouching}
 use Rattle.cosecmd.specs.WriteSink.{held_through}
 use Rattle.cosecmd.proofs.MessageReplies.{all_come_to}
 use Rattle.cosecmd.proofs.Trailing.{left_of_input}
-use Rattle.cosecmd.proofs.Writes.{lent}
+use Rattle.cosecmd.proofs.WrittenPieces.{lent}
 
 pub where_ok : {A F : Type 0} (answer : Result A F) (P : Type 0) → P → IfOk answer (λ _. P)
 where_ok (Ok x) P p = p

@@ -18,7 +18,7 @@ pub mod MakeStops
 pub mod Makings
 pub mod MessageReplies
 pub mod NextTokens
-pub mod Nexts
+pub mod NextMessages
 pub mod Options
 pub mod PartLines
 pub mod PayloadFiles
@@ -26,12 +26,12 @@ pub mod Replies
 pub mod RequiredOptions
 pub mod Sequences
 pub mod ShortPayloads
-pub mod Shows
+pub mod ShownMessages
 pub mod Sizes
 pub mod TextRequests
 pub mod Trailing
 pub mod VerifiedSequences
-pub mod Vouches
+pub mod VouchedSignatures
 pub mod WorkedAdmitted
 pub mod WorkedAllowed
 pub mod WorkedAsked
@@ -47,4 +47,4 @@ pub mod WorkedPrinted
 pub mod WorkedRequirements
 pub mod WorkedSequences
 pub mod WorkedShown
-pub mod Writes
+pub mod WrittenPieces

@@ -12,7 +12,7 @@ use Rattle.cose_msg.specs.declared.make.MakeFault.TheVariants as faults
 use Rattle.cose_msg.specs.Make.{Makes, TakesPayload, TakesSome, Grows, make_fault}
 use Rattle.cose_msg.specs.Making.{made}
 use Rattle.cose_msg.specs.Message.{secret_of}
-use Rattle.cose_msg.specs.Sink.{AppendsFront, IsFront}
+use Rattle.cose_msg.specs.Sink.{AppendsFront, IsPrefix}
 use Rattle.cosecmd.specs.declared.reply.Status.TheVariants as statuses
 use Rattle.cosecmd.specs.declared.fault.Fault.{Fault}
 use Rattle.cosecmd.specs.declared.fault.Fault.TheVariants as program
@@ -20,10 +20,10 @@ use Rattle.cosecmd.specs.Faults.{WritesLine}
 use Rattle.cosecmd.specs.MakeStops.{AgreeInFront, LeavesPrefix, StopsMaking}
 use Rattle.cosecmd.specs.Printed.{Output, made_under, message_made, unless_faulty}
 use Rattle.cosecmd.specs.WriteSink.{held_through}
-use Rattle.cosecmd.proofs.Writes.{lent, whole_front}
+use Rattle.cosecmd.proofs.WrittenPieces.{lent, whole_front}
 
 -- What was taken are the first bytes of the input.
-first_taken : (bytes taken : List ℕ) (come_after : Option (List ℕ)) (result : Result ℕ MakeFault) → TakesPayload (Some bytes) come_after result taken → IsFront bytes taken
+first_taken : (bytes taken : List ℕ) (come_after : Option (List ℕ)) (result : Result ℕ MakeFault) → TakesPayload (Some bytes) come_after result taken → IsPrefix bytes taken
 first_taken bytes taken None (Ok n) takes = absurd takes
 first_taken bytes taken (Some rest) (Ok n) takes = (rest, takes)
 first_taken bytes taken None (Err faults.ShortPayload) takes = absurd takes
@@ -50,21 +50,21 @@ same_payload taken (byte ∷ rest) long = absurd (omega (arith, long, length-app
 
 grows_front : (message : List ℕ → List ℕ) (n : ℕ) (ended : Bool) (come_after contents contents_after : Option (List ℕ)) (result : Result ℕ MakeFault) (taken : List ℕ) →
     TakesSome n ended come_after result (length taken) → Grows message n contents contents_after result taken →
-    (payload : List ℕ) → length payload ≡ n → IsFront payload taken → AppendsFront contents contents_after (message payload)
+    (payload : List ℕ) → length payload ≡ n → IsPrefix payload taken → AppendsFront contents contents_after (message payload)
 grows_front message n ended after contents contents_after (Ok m) taken count grows payload long (rest, begins) =
     let same : payload ≡ taken = begins ∙ same_payload taken rest (ap length (sym begins) ∙ long ∙ sym count) in
     whole_front contents contents_after (message payload) (subst (λ (t : List ℕ). Appends contents contents_after (message t)) (sym same) grows.0)
 grows_front message n ended after contents contents_after (Err fault) taken count grows payload long begins = grows payload long begins
 
 -- They are the first ones of another input too that has them, and at least as many.
-first_of_other : (bytes other taken : List ℕ) → IsFront bytes taken → AgreeInFront bytes other → length taken ≤ length other → take (length taken) other ≡ taken
+first_of_other : (bytes other taken : List ℕ) → IsPrefix bytes taken → AgreeInFront bytes other → length taken ≤ length other → take (length taken) other ≡ taken
 first_of_other bytes other taken (rest, first) (inl (more, longer)) enough =
     ap (take (length taken)) (longer ∙ ap (λ (t : List ℕ). t ++ more) first ∙ append_assoc taken rest more) ∙ take-append_seam taken (rest ++ more)
 first_of_other bytes other taken (rest, first) (inr (more, shorter)) enough =
     sym (take-append-le (length taken) other more enough) ∙ ap (take (length taken)) (sym shorter ∙ first) ∙ take-append_seam taken rest
 
 -- So they are those of its payload.
-front_of_payload : (other taken : List ℕ) (n : ℕ) → length taken ≤ n → take (length taken) other ≡ taken → IsFront (take n other) taken
+front_of_payload : (other taken : List ℕ) (n : ℕ) → length taken ≤ n → take (length taken) other ≡ taken → IsPrefix (take n other) taken
 front_of_payload other taken n few first =
     let own : take (length taken) (take n other) ≡ taken = take-take (length taken) n other few ∙ first in
     (drop (length taken) (take n other), sym (take-append-drop (length taken) (take n other)) ∙ ap (λ (t : List ℕ). t ++ drop (length taken) (take n other)) own)
@@ -75,8 +75,8 @@ lent_front old new given bytes old_name name found (front, is, grown) = (front, 
 
 -- A prefix of the message for each input that goes on so.
 front_of_made : (key : KeyValue) (alg : Alg) (n : ℕ) (kid : Option (List ℕ)) (aad bytes taken other : List ℕ) (old given : Option (List ℕ)) →
-    ((payload : List ℕ) → length payload ≡ n → IsFront payload taken → AppendsFront old given (made alg (secret_of key.material) kid aad payload)) →
-    IsFront bytes taken → length taken ≤ n → AgreeInFront bytes other →
+    ((payload : List ℕ) → length payload ≡ n → IsPrefix payload taken → AppendsFront old given (made alg (secret_of key.material) kid aad payload)) →
+    IsPrefix bytes taken → length taken ≤ n → AgreeInFront bytes other →
     (message_made key alg n kid aad other).status ≡ statuses.Done → AppendsFront old given (message_made key alg n kid aad other).text
 front_of_made key alg n kid aad bytes taken other old given grows first few agree = go (nat_lt (length other) n) refl
   where
@@ -97,7 +97,7 @@ leaves_prefix read key alg n kid aad bytes {come} {come_after} {contents} {conte
     ap (λ (t : Read KeyValue). made_under t alg n kid aad other) d ∙ ap (λ (t : Option MakeFault). unless_faulty t (message_made key alg n kid aad other)) sound in
     let first = first_taken bytes taken come_after result (subst (λ (t : Option (List ℕ)). TakesPayload t come_after result taken) told makes.bytes) in
     let few = no_more n (length taken) ended come_after result makes.count in
-    let grows : (payload : List ℕ) → length payload ≡ n → IsFront payload taken → AppendsFront begun given (made alg (secret_of key.material) kid aad payload) =
+    let grows : (payload : List ℕ) → length payload ≡ n → IsPrefix payload taken → AppendsFront begun given (made alg (secret_of key.material) kid aad payload) =
     λ payload long whole. lent_front begun written given _ begun_name name found (rw (← held) (rw holds (grows_front (made alg (secret_of key.material) kid aad) n ended come_after contents contents_after result taken makes.count makes.grows payload long whole))) in
     subst (λ (o : Output). AppendsFront begun given o.text) (sym same)
     (front_of_made key alg n kid aad bytes taken other begun given grows first few agree (subst (λ (o : Output). o.status ≡ statuses.Done) same done))

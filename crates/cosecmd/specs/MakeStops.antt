@@ -1,6 +1,6 @@
 -- What `make` has written where it ends with status 2.
 use Rattle.std.specs.Prelude.{◌≡◌, ◌⊎◌, ℕ, List, Option}
-use Rattle.cose_msg.specs.Sink.{AppendsFront, IsFront}
+use Rattle.cose_msg.specs.Sink.{AppendsFront, IsPrefix}
 use Rattle.cosecmd.specs.Faults.{WritesLine}
 use Rattle.cosecmd.specs.Printed.{Output}
 use Rattle.cosecmd.specs.declared.fault.Fault.{Fault}
@@ -8,7 +8,7 @@ use Rattle.cosecmd.specs.declared.reply.Status.TheVariants as statuses
 
 -- Of these two inputs one is a prefix of the other.
 abbrev pub AgreeInFront : List ℕ → List ℕ → Type 0
-AgreeInFront input other = IsFront other input ⊎ IsFront input other
+AgreeInFront input other = IsPrefix other input ⊎ IsPrefix input other
 
 -- Where it stopped after its message was begun: a prefix of the message for each input that has this one's bytes, as far as both
 -- go. So no line follows what was written.

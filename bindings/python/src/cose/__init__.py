@@ -29,6 +29,7 @@ from .messages import Label, Message, Shape, shape, verify
 from .reasons import Reason
 from .signatures import ecdsa
 from .signing import Sign, Sign1Maker, ecdsa_signer, sign1
+from .terms_table import TermsTable
 from .tokens import Claims, Confirmation, ConfirmationKey, claims, verify_cwt
 from .verifier import Fed, Verdict, Verifier
 
@@ -67,6 +68,7 @@ __all__ = [
     "SignInput",
     "SignatureUnverified",
     "Status",
+    "TermsTable",
     "Unmet",
     "Verdict",
     "Verifier",

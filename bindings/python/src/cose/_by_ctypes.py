@@ -16,6 +16,7 @@ from ._library import (
     FedStruct,
     HandleStruct,
     PolicyStruct,
+    RequirementsStruct,
     SignInputStruct,
     Status,
     VerdictStruct,
@@ -46,6 +47,12 @@ def table_verify(block: int, aad: bytes, kind: int, message: bytes, /) -> bytes:
     """`cose_table_verify`"""
     table = byref(HandleStruct(block))
     return _answer(small.edge_table_verify, table, aad, len(aad), kind, message, len(message))
+
+
+def table_authenticate(block: int, message: bytes, /) -> bytes:
+    """`cose_table_authenticate`"""
+    table = byref(HandleStruct(block))
+    return _answer(small.edge_table_authenticate, table, message, len(message))
 
 
 def verify_cwt(
@@ -87,6 +94,14 @@ def table_verify_cwts(
     """`cose_table_verify_cwt` of each of the tokens"""
     given = (block, aad, now, leeway, audience)
     return tuple([table_verify_cwt(*given, token) for token in tokens])
+
+
+def table_admit(block: int, requirements: bytes, token: bytes, /) -> bytes:
+    """`cose_table_admit`, under the bytes of `struct cose_requirements`"""
+    claims, table = ClaimsStruct(), byref(HandleStruct(block))
+    required = byref(RequirementsStruct.from_buffer_copy(requirements))
+    small.edge_table_admit(table, required, token, len(token), byref(claims))
+    return bytes(claims)
 
 
 def feed(block: int, large: bool, piece: bytes, /) -> bytes:

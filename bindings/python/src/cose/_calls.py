@@ -15,6 +15,8 @@ if not os.environ.get("COSE_LIBRARY"):
         from ._extension import (
             feed,
             items,
+            table_admit,
+            table_authenticate,
             table_verify,
             table_verify_cwt,
             table_verify_cwts,
@@ -29,6 +31,8 @@ if not IS_BUILT:
     from ._by_ctypes import (
         feed,
         items,
+        table_admit,
+        table_authenticate,
         table_verify,
         table_verify_cwt,
         table_verify_cwts,
@@ -40,6 +44,8 @@ __all__ = [
     "IS_BUILT",
     "feed",
     "items",
+    "table_admit",
+    "table_authenticate",
     "table_verify",
     "table_verify_cwt",
     "table_verify_cwts",

@@ -89,6 +89,8 @@ cose_chosen_key
 cose_received_signature
     u64 length
     u8*132 signature
+cose_device_verifier
+    address at
 cose_large_verifier
     address at
 cose_maker
@@ -178,6 +180,9 @@ edge_asked_key &cose_verifier &cose_chosen_key -> u8
 asked_signature &cose_verifier &cose_received_signature -> u8
 edge_verdict_of_mac &cose_verifier bytes &cose_message_verdict
 verdict_of_answer &cose_verifier u64 i32 &cose_message_verdict
+device_verifier_size -> usize
+device_verifier_align -> usize
+device_begin address
 large_verifier_size -> usize
 large_verifier_align -> usize
 large_begin address
@@ -216,6 +221,20 @@ edge_make_sign1 &cose_signer i32 bytes bytes u64 room &cose_made
 edge_make_sign1_piece &cose_signer bytes -> u64
 edge_make_sign1_digest &cose_signer room &cose_made
 edge_make_sign1_end &cose_signer bytes room &cose_made
+edge_device_open &cose_device_verifier bytes bytes u8 &cose_status
+edge_device_open_detached &cose_device_verifier bytes bytes u8 u64 &cose_status
+edge_device_feed &cose_device_verifier bytes &cose_fed
+device_wanted &cose_device_verifier -> u64
+device_payload_wanted &cose_device_verifier -> u64
+edge_device_feed_payload &cose_device_verifier bytes -> u64
+device_end &cose_device_verifier &cose_status
+device_sign_input &cose_device_verifier &cose_signature_input -> u8
+device_verdict &cose_device_verifier i32 &cose_message_verdict
+device_message_number &cose_device_verifier -> u64
+device_verdict_for &cose_device_verifier u64 i32 &cose_message_verdict
+device_reset &cose_device_verifier
+device_taken &cose_device_verifier -> u64
+device_held &cose_device_verifier -> u64
 edge_large_open &cose_large_verifier bytes bytes u8 &cose_status
 edge_large_open_detached &cose_large_verifier bytes bytes u8 u64 &cose_status
 edge_large_open_under &cose_large_verifier &cose_terms &cose_status
@@ -252,6 +271,9 @@ taken &cose_verifier -> u64
 held &cose_verifier -> u64
 edge_header &cose_verifier u32 i64 room &cose_item
 edge_header_named &cose_verifier u32 bytes room &cose_item
+edge_table_read_under &cose_table &cose_terms &cose_key_set
+edge_table_authenticate &cose_table bytes &cose_message_verdict &cose_signature_input
+edge_table_admit &cose_table &cose_requirements bytes &cose_claims_set
 edge_table_read &cose_table bytes &cose_key_set
 edge_table_verify &cose_table bytes u8 bytes &cose_message_verdict &cose_signature_input
 edge_table_verify_cwt &cose_table bytes &cose_policy bytes &cose_claims_set
@@ -405,6 +427,7 @@ class MadeStruct(ctypes.Structure):
 
 @_struct("cose_verifier")
 @_struct("cose_large_verifier")
+@_struct("cose_device_verifier")
 @_struct("cose_table")
 @_struct("cose_maker")
 @_struct("cose_signer")

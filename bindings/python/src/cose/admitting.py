@@ -92,7 +92,7 @@ def terms_of(
     return Terms(keys, b"", kind, *stated, (), None)
 
 
-def _requirements(
+def requirements_of(
     now: Optional[int],
     leeway: int,
     issuer: Optional[str],
@@ -103,6 +103,7 @@ def _requirements(
     max_age: Optional[int],
     without_exp: bool,
 ) -> RequirementsStruct:
+    """What a caller requires of tokens, as the library has it."""
     iss, sub = _named(issuer, "issuer"), _named(subject, "subject")
     aud = _named(audience, "audience")
     flags = 0
@@ -188,7 +189,8 @@ def authenticate(
     return _message(terms, data, content, ecdsa, large)
 
 
-def _claims_under(requirements: RequirementsStruct, payload: bytes, large: bool) -> Claims:
+def claims_under(requirements: RequirementsStruct, payload: bytes, large: bool) -> Claims:
+    """The claims of an authentic payload, where they meet the requirements."""
     found, calls = ClaimsStruct(), _library.large if large else small
     calls.edge_admit_claims(byref(requirements), payload, len(payload), byref(found))
     if found.status != Status.AUTHENTIC:
@@ -212,10 +214,10 @@ def admit_claims(
 ) -> Claims:
     """The claims of a payload that is known to be authentic, where they meet what is required."""
     data = bytes_of(payload, "payload")
-    requirements = _requirements(
+    requirements = requirements_of(
         now, leeway, issuer, subject, audience, present, max_lifetime, max_age, without_exp
     )
-    return _claims_under(requirements, data, large)
+    return claims_under(requirements, data, large)
 
 
 def admit(
@@ -257,7 +259,7 @@ def admit(
     Raises what `cose.verify_cwt` raises, and `Unmet`.
     """
     data = bytes_of(token, "token")
-    requirements = _requirements(
+    requirements = requirements_of(
         now, leeway, issuer, subject, audience, present, max_lifetime, max_age, without_exp
     )
     terms = Terms(
@@ -277,4 +279,4 @@ def admit(
         return claims_of(data, bytes(found))
     if found.status != Status.SIGNED:
         fail(found)
-    return _claims_under(requirements, _message(terms, data, None, ecdsa, large).payload, large)
+    return claims_under(requirements, _message(terms, data, None, ecdsa, large).payload, large)

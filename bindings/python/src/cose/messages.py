@@ -32,6 +32,10 @@ class Label(IntEnum):
     X5U = 35
 
 
+# a message as it was received, the kind that was wanted, and whether its header may be large
+Received = Tuple[bytes, int, bool]
+
+
 @dataclass(frozen=True)
 class Message:
     """An authentic message. `taken` is the number of its bytes."""
@@ -40,8 +44,7 @@ class Message:
     alg: Algorithm
     payload: bytes
     taken: int
-    # as it was received, the kind that was wanted, and whether its header may be large
-    _received: Tuple[bytes, int, bool] = field(default=(b"", 0, False), repr=False, compare=False)
+    _received: Received = field(default=(b"", 0, False), repr=False, compare=False)
 
     def protected(self, label: Union[int, str]) -> Any:
         """A parameter of the protected header, as `cose.cbor.decode` gives it: it is authentic.
@@ -123,6 +126,22 @@ def bad_signature(sign_input: SignInputStruct) -> Refused:
     return Refused(Reason.BadAuth, sign_input.place)
 
 
+def message_of(
+    found: bytes, content: Optional[bytes], ecdsa: Optional[Ecdsa], received: Received
+) -> Message:
+    """The message of a verdict, and of what its signature is verified with where it is signed."""
+    status, _, kind, alg, _, at, length, taken = _numbers_of(found)
+    if status == _SIGNED:
+        sign_input = SignInputStruct.from_buffer_copy(found, sizeof(VerdictStruct))
+        if not is_good(sign_input, ecdsa):
+            raise bad_signature(sign_input)
+    elif status != _AUTHENTIC:
+        fail(VerdictStruct.from_buffer_copy(found))
+    if content is None:
+        content = received[0][at : at + length]
+    return Message(_KINDS[kind], _ALGORITHMS[alg], content, taken, received)
+
+
 def shape(message: Buffer, *, wanted: Optional[Kind] = None) -> Shape:
     """The shape of a message, which is parsed and not authenticated. Raises `Refused`."""
     data, found = bytes_of(message, "message"), ShapeStruct()
@@ -160,13 +179,4 @@ def verify(
         found = _read(keys, external, number, data, large)
     else:
         found = _read_detached(keys, external, number, data, content, large)
-    status, _, kind, alg, _, at, length, taken = _numbers_of(found)
-    if status == _SIGNED:
-        sign_input = SignInputStruct.from_buffer_copy(found, sizeof(VerdictStruct))
-        if not is_good(sign_input, ecdsa):
-            raise bad_signature(sign_input)
-    elif status != _AUTHENTIC:
-        fail(VerdictStruct.from_buffer_copy(found))
-    if content is None:
-        content = data[at : at + length]
-    return Message(_KINDS[kind], _ALGORITHMS[alg], content, taken, (data, number, large))
+    return message_of(found, content, ecdsa, (data, number, large))

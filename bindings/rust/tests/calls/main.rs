@@ -11,6 +11,7 @@ mod reasons;
 mod signing;
 mod sizes;
 mod stated;
+mod terms_table;
 mod tokens;
 
 /// The bytes of hexadecimal digits.

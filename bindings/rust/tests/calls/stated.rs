@@ -5,9 +5,9 @@ use std::path::Path;
 use crate::hex;
 use crate::json::Json;
 use cose::{
-    admit_claims_sized, admit_sized, authenticate_detached_sized, authenticate_sized, Bucket,
-    Claim, Claims, Error, Label, Large, NotAdmitted, Options, Requirement, Requirements, SignInput,
-    Size, Small, Terms, Verdict, Wanted,
+    admit_claims, admit_claims_sized, admit_sized, authenticate_detached_sized, authenticate_sized,
+    Block, Bucket, Claim, Claims, Error, Label, Large, NotAdmitted, Options, Requirement,
+    Requirements, SignInput, Size, Small, Terms, TermsTable, Verdict, Wanted,
 };
 
 const CLAIMS: [(&str, Claim); 7] = [
@@ -201,7 +201,7 @@ fn expected(test: &Json) -> String {
 }
 
 /// Runs each test of a file: how many it has.
-fn each_test(name: &str, run: fn(&Setting, &Json)) -> usize {
+fn each_test(name: &str, mut run: impl FnMut(&Setting, &Json)) -> usize {
     let folder = Path::new(env!("CARGO_MANIFEST_DIR")).join("../../rows");
     let text = std::fs::read_to_string(folder.join(name)).expect("the file can be read");
     let file = Json::read(&text);
@@ -221,15 +221,15 @@ fn token_of(test: &Json) -> Vec<u8> {
     hex(test.get("token").expect("there is a token").text())
 }
 
-/// The claims by two calls: of the message, and of its payload.
-fn in_two<S: Size>(setting: &Setting, token: &[u8]) -> String {
-    match authenticate_sized::<S>(&setting.terms(), token) {
+/// The claims of what a message was found to be.
+fn claims_in<S: Size>(setting: &Setting, found: &Result<Verdict, Error>) -> String {
+    match found {
         Ok(Verdict::Authentic(message)) => {
             let requirements = setting.requirements();
             admitted(admit_claims_sized::<S>(&requirements, message.payload))
         }
         Ok(Verdict::Signed(_)) => "it is signed".to_string(),
-        Err(error) => refused(error),
+        Err(error) => refused(*error),
     }
 }
 
@@ -238,8 +238,21 @@ fn run_terms<S: Size>(setting: &Setting, test: &Json) {
     let (terms, requirements) = (setting.terms(), setting.requirements());
     let seen = admitted(admit_sized::<S>(&terms, &requirements, &token));
     assert_eq!(seen, wanted, "admit: {test:?}");
-    let seen = in_two::<S>(setting, &token);
+    let seen = claims_in::<S>(setting, &authenticate_sized::<S>(&terms, &token));
     assert_eq!(seen, wanted, "authenticate and admit_claims: {test:?}");
+}
+
+/// The same under a table that is read once: both calls leave it as it is.
+fn run_terms_in_table(setting: &Setting, test: &Json) {
+    let (token, wanted) = (token_of(test), expected(test));
+    let mut block = Block::new();
+    let mut table = TermsTable::read(&mut block, &setting.terms()).expect("the keys are good");
+    for _ in 0..2 {
+        let seen = admitted(table.admit(&setting.requirements(), &token));
+        assert_eq!(seen, wanted, "TermsTable::admit: {test:?}");
+        let seen = claims_in::<Small>(setting, &table.authenticate(&token));
+        assert_eq!(seen, wanted, "TermsTable::authenticate: {test:?}");
+    }
 }
 
 #[test]
@@ -248,6 +261,13 @@ fn terms() {
         run_terms::<Small>(setting, test);
         run_terms::<Large>(setting, test);
     });
+    assert!(count > 100);
+}
+
+#[test]
+fn terms_in_table() {
+    let count = each_test("terms.json", run_terms_in_table);
+    println!("through a table: {count} of the rows of terms");
     assert!(count > 100);
 }
 
@@ -289,13 +309,35 @@ fn checked<S: Size>(setting: &Setting, test: &Json) -> Result<&'static str, Stri
     Ok(if is_whole { "accepted" } else { "dropped" })
 }
 
-fn run_checklist<S: Size>(setting: &Setting, test: &Json) {
-    let mut wanted = expected(test);
-    if test.get("signature").is_some() && wanted.starts_with("refused message BadAuth ") {
-        wanted = NOT_GOOD.to_string();
+/// The same by a table; it has no call for a detached payload.
+fn checked_in_table(setting: &Setting, test: &Json) -> Result<&'static str, String> {
+    let (token, requirements) = (token_of(test), setting.requirements());
+    let mut block = Block::new();
+    let mut table = TermsTable::read(&mut block, &setting.terms()).map_err(refused)?;
+    match table.admit(&requirements, &token) {
+        Err(NotAdmitted::Error(Error::Signed)) => {
+            let verdict = table.authenticate(&token).map_err(refused)?;
+            let payload = verdict.payload_if(|input| is_good(test, input));
+            admit_claims(&requirements, payload.ok_or(NOT_GOOD)?).map_err(not_admitted)?;
+        }
+        other => drop(other.map_err(not_admitted)?),
     }
+    let is_whole = has_parameters::<Small>(setting, &token);
+    Ok(if is_whole { "accepted" } else { "dropped" })
+}
+
+/// The answer that a row of the checklist expects.
+fn expected_of_checklist(test: &Json) -> String {
+    let wanted = expected(test);
+    if test.get("signature").is_some() && wanted.starts_with("refused message BadAuth ") {
+        return NOT_GOOD.to_string();
+    }
+    wanted
+}
+
+fn run_checklist<S: Size>(setting: &Setting, test: &Json) {
     let seen = checked::<S>(setting, test).map_or_else(|why| why, str::to_string);
-    assert_eq!(seen, wanted, "{test:?}");
+    assert_eq!(seen, expected_of_checklist(test), "{test:?}");
 }
 
 /// Each line of SECURITY's checklist that a caller states: the bad case is refused, and the good one isn't.
@@ -310,4 +352,22 @@ fn checklist() {
     });
     println!("checklist: {count} rows");
     assert!(count > 50);
+}
+
+#[test]
+fn checklist_in_table() {
+    let mut detached = 0;
+    let count = each_test("checklist.json", |setting, test| {
+        if test.get("payload").is_some() {
+            detached += 1;
+            return;
+        }
+        let seen = checked_in_table(setting, test).map_or_else(|why| why, str::to_string);
+        assert_eq!(seen, expected_of_checklist(test), "{test:?}");
+    });
+    println!(
+        "through a table: {} of the checklist's rows",
+        count - detached
+    );
+    assert!(count - detached > 50);
 }

@@ -9,6 +9,7 @@ ghost use denote.RawPtr.{room_at};
 ghost use Rattle.cose_c.specs.declared.held.table.HeldTable.{HeldTable};
 ghost use Rattle.cose_c.specs.contracts.held.table.HeldTable.{the_row};
 
+use crate::table::kept::TableTerms;
 use cose_msg::KeyTable;
 use std::marker::Model;
 use std::ptr;
@@ -16,10 +17,11 @@ use std::ptr;
 /// The most keys of a table.
 pub(crate) const TABLE: usize = 64;
 
-/// The value in a block: a table, once it is read.
+/// The value in a block: a table, once it is read, and the terms that it was read under, if any.
 #[derive(Drop)]
 pub struct HeldTable {
     pub(crate) content: Option<KeyTable<'static, TABLE>>,
+    pub(crate) stated: Option<TableTerms>,
 }
 
 /// The handle of a table: where its block is.
@@ -49,7 +51,10 @@ impl CoseTable {
 fn closed() -> HeldTable
     ensures { result.content ≡ None }
 {
-    HeldTable { content: None }
+    HeldTable {
+        content: None,
+        stated: None,
+    }
 }
 
 /// The number of bytes of a table's block.

@@ -64,7 +64,7 @@ impl<'k, const H: usize, const D: usize> Reader<'k, H, D> {
     ghost use Rattle.cose_msg.specs.Phases.{auth_head, finish, headers_so_far, past_auth_head};
     ghost use Rattle.cose_msg.specs.Reading.{Reading};
     ghost use Rattle.cose_msg.specs.Task.{Task, rules_of};
-    ghost use Rattle.cose_msg.specs.Reader.{HoldsAuth, HoldsKey, IsFed, Known, Shows, ReaderMeans};
+    ghost use Rattle.cose_msg.specs.Reader.{HoldsAuth, HoldsKey, IsFed, Known, HasFindings, ReaderMeans};
 
     /// The algorithm that the key is used with, if one was chosen.
     fn alg(&self) -> Option<Alg>
@@ -90,7 +90,7 @@ impl<'k, const H: usize, const D: usize> Reader<'k, H, D> {
         ensures further { status_of_phase self.new.phase ≡ Status.More }
         ensures unawaited { payload_want_of self.new.phase ≡ 0 }
         ensures reads_on { (task : Task) (known : Known)
-            → Shows task (headers_so_far known.headers known.payload) self.old
+            → HasFindings task (headers_so_far known.headers known.payload) self.old
             → HoldsKey task known self.old kind → length known.payload ≡ payload
             → IsFed self.old.hashing task.setting.aad known
             → ReaderMeans task known.payload at self.new (λ more. auth_head (rules_of H D task)
@@ -119,7 +119,7 @@ impl<'k, const H: usize, const D: usize> Reader<'k, H, D> {
     fn past_auth_head(&mut self, auth_head: AuthHead, head: Head, at: u64)
         requires early { at < 2 ^ 58 }
         ensures reads_on { (task : Task) (known : Known)
-            → Shows task (headers_so_far known.headers known.payload) self.old
+            → HasFindings task (headers_so_far known.headers known.payload) self.old
             → HoldsKey task known self.old auth_head.kind → length known.payload ≡ auth_head.payload
             → IsFed self.old.hashing task.setting.aad known
             → ReaderMeans task known.payload at self.new
@@ -188,7 +188,7 @@ impl<'k, const H: usize, const D: usize> Reader<'k, H, D> {
     /// All bytes are there: the shape of a message that is only inspected is known.
     fn finish(&mut self, whole: Whole)
         ensures reads_on { (task : Task) (known : Known) (at : ℕ)
-            → Shows task (headers_so_far known.headers known.payload) self.old
+            → HasFindings task (headers_so_far known.headers known.payload) self.old
             → HoldsKey task known self.old whole.kind → length known.payload ≡ whole.payload
             → length known.auth ≡ whole.auth → IsFed self.old.hashing task.setting.aad known
             → HoldsAuth known.chosen self.old.auth.items known.auth
@@ -212,7 +212,7 @@ impl<'k, const H: usize, const D: usize> Reader<'k, H, D> {
     /// the caller where the message is authenticated elsewhere.
     fn compare(&mut self, whole: Whole, alg: Alg)
         ensures reads_on { (task : Task) (known : Known) (found : Found) (at : ℕ)
-            → Shows task (headers_so_far known.headers known.payload) self.old
+            → HasFindings task (headers_so_far known.headers known.payload) self.old
             → HoldsKey task known self.old whole.kind → known.chosen ≡ Some found → found.alg ≡ alg
             → length known.payload ≡ whole.payload → IsFed self.old.hashing task.setting.aad known
             → self.old.auth.items ≡ known.auth

@@ -103,7 +103,7 @@ impl<'k, const H: usize, const D: usize> Reader<'k, H, D> {
     ghost use Rattle.cose_msg.specs.Hashing.{HashesFor, is_elsewhere};
     ghost use Rattle.cose_msg.specs.Phases.{both_buckets, headers_so_far, placed_at};
     ghost use Rattle.cose_msg.specs.Reading.{Reading};
-    ghost use Rattle.cose_msg.specs.Reader.{Shows, ReaderMeans, task_in};
+    ghost use Rattle.cose_msg.specs.Reader.{HasFindings, ReaderMeans, task_in};
     ghost use Rattle.cose_msg.specs.Task.{Task, asks, keys_for, rules_of};
 
     /// Puts what both buckets say of the key into its place, once they are checked together. Their contents are at these
@@ -219,7 +219,8 @@ impl<'k, const H: usize, const D: usize> Reader<'k, H, D> {
         requires early { at < 2 ^ 17 }
         ensures reads_on { (task : Task) (pairs others : List Pair)
             → keys_in K.usable keys.entry ≡ keys_for task → elsewhere ≡ asks task
-            → Shows task (headers_so_far (headers_of kind self.old.protected.items pairs others) [])
+            → HasFindings task
+            (headers_so_far (headers_of kind self.old.protected.items pairs others) [])
             self.old
             → bucket_of D (placed_at protected_at self.old.protected.items) ≡ Ok pairs
             → bucket_of D (placed_at at self.old.unprotected.items) ≡ Ok others

@@ -85,7 +85,7 @@ impl<'k, const H: usize, const D: usize> Reader<'k, H, D> {
     ghost use Rattle.cose_msg.specs.Phases.{nothing_so_far};
     ghost use Rattle.cose_msg.specs.Reading.{Reading};
     ghost use Rattle.cose_msg.specs.Task.{Task, rules_of};
-    ghost use Rattle.cose_msg.specs.Reader.{Shows, ReaderMeans};
+    ghost use Rattle.cose_msg.specs.Reader.{HasFindings, ReaderMeans};
 
     /// Takes the next byte of the first head.
     pub(crate) fn first_head(&mut self, byte: u8)
@@ -104,7 +104,7 @@ impl<'k, const H: usize, const D: usize> Reader<'k, H, D> {
     /// What follows the first head.
     fn past_first_head(&mut self, head: Head, at: u64)
         requires early { at ≤ 9 }
-        ensures reads_on { (task : Task) → Shows task nothing_so_far self.old
+        ensures reads_on { (task : Task) → HasFindings task nothing_so_far self.old
             → ReaderMeans task [] at self.new
             (λ more. past_first_head (rules_of H D task) 0 head at more) }
     {
@@ -123,7 +123,7 @@ impl<'k, const H: usize, const D: usize> Reader<'k, H, D> {
     /// What follows the head of an array without a tag.
     fn past_untagged(&mut self, wanted: Wanted, head: Head, at: u64)
         requires early { at ≤ 9 }
-        ensures reads_on { (task : Task) → Shows task nothing_so_far self.old
+        ensures reads_on { (task : Task) → HasFindings task nothing_so_far self.old
             → ReaderMeans task [] at self.new
             (λ more. past_untagged (rules_of H D task) wanted 0 head at more) }
     {
@@ -137,7 +137,7 @@ impl<'k, const H: usize, const D: usize> Reader<'k, H, D> {
     /// The head of another tag begins here.
     fn begin_tag_head(&mut self, at: u64)
         requires early { at ≤ 9 }
-        ensures reads_on { (task : Task) → Shows task nothing_so_far self.old
+        ensures reads_on { (task : Task) → HasFindings task nothing_so_far self.old
             → ReaderMeans task [] at self.new (λ more. second_head (rules_of H D task) at more) }
     {
         self.head.clear();
@@ -165,7 +165,7 @@ impl<'k, const H: usize, const D: usize> Reader<'k, H, D> {
     /// What follows a tag, given its kind or why it is refused.
     fn past_tag(&mut self, kind: Result<Kind, Reason>, tag_at: u64, at: u64)
         requires early { at ≤ 18 }
-        ensures reads_on { (task : Task) → Shows task nothing_so_far self.old
+        ensures reads_on { (task : Task) → HasFindings task nothing_so_far self.old
             → ReaderMeans task [] at self.new
             (λ more. past_tag (rules_of H D task) tag_at kind at more) }
     {
@@ -178,7 +178,7 @@ impl<'k, const H: usize, const D: usize> Reader<'k, H, D> {
     /// The head of the array begins here.
     fn begin_array_head(&mut self, kind: Kind, at: u64)
         requires early { at ≤ 18 }
-        ensures reads_on { (task : Task) → Shows task nothing_so_far self.old
+        ensures reads_on { (task : Task) → HasFindings task nothing_so_far self.old
             → ReaderMeans task [] at self.new (λ more. array_head (rules_of H D task) kind at more) }
     {
         self.head.clear();
@@ -203,7 +203,7 @@ impl<'k, const H: usize, const D: usize> Reader<'k, H, D> {
     /// What follows the array's head.
     fn past_array_head(&mut self, kind: Kind, head: Head, head_at: u64, at: u64)
         requires early { at ≤ 27 }
-        ensures reads_on { (task : Task) → Shows task nothing_so_far self.old
+        ensures reads_on { (task : Task) → HasFindings task nothing_so_far self.old
             → ReaderMeans task [] at self.new
             (λ more. past_array_head (rules_of H D task) kind head_at head at more) }
     {

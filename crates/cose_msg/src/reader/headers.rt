@@ -51,12 +51,12 @@ impl<'k, const H: usize, const D: usize> Reader<'k, H, D> {
     ghost use Rattle.cose_msg.specs.Phases.{nothing_so_far, past_protected, past_protected_head, past_unprotected, placed_at, protected_head, protected_fault_within, protected_so_far, unprotected};
     ghost use Rattle.cose_msg.specs.Reading.{Reading};
     ghost use Rattle.cose_msg.specs.Task.{Task, asks, keys_for, rules_of};
-    ghost use Rattle.cose_msg.specs.Reader.{Shows, ReaderMeans, keys_in};
+    ghost use Rattle.cose_msg.specs.Reader.{HasFindings, ReaderMeans, keys_in};
 
     /// The head of the protected bucket begins here.
     pub(crate) fn begin_protected_head(&mut self, kind: Kind, at: u64)
         requires early { at ≤ 27 }
-        ensures reads_on { (task : Task) → Shows task nothing_so_far self.old
+        ensures reads_on { (task : Task) → HasFindings task nothing_so_far self.old
             → ReaderMeans task [] at self.new
             (λ more. protected_head (rules_of H D task) kind at more) }
     {
@@ -95,7 +95,7 @@ impl<'k, const H: usize, const D: usize> Reader<'k, H, D> {
     /// What follows the protected bucket's head.
     fn past_protected_head(&mut self, kind: Kind, head: Head, head_at: u64, at: u64)
         requires early { at ≤ 36 }
-        ensures reads_on { (task : Task) → Shows task nothing_so_far self.old
+        ensures reads_on { (task : Task) → HasFindings task nothing_so_far self.old
             → ReaderMeans task [] at self.new
             (λ more. past_protected_head (rules_of H D task) kind head_at head at more) }
     {
@@ -144,7 +144,7 @@ impl<'k, const H: usize, const D: usize> Reader<'k, H, D> {
     /// What follows the protected bucket, whose content is at this place.
     fn past_protected(&mut self, kind: Kind, at: u64)
         requires early { at ≤ 36 }
-        ensures reads_on { (task : Task) → Shows task nothing_so_far self.old
+        ensures reads_on { (task : Task) → HasFindings task nothing_so_far self.old
             → ReaderMeans task [] (at + length self.old.protected.items) self.new
             (λ more. past_protected (rules_of H D task) kind at self.old.protected.items
             (at + length self.old.protected.items) more) }
@@ -160,7 +160,8 @@ impl<'k, const H: usize, const D: usize> Reader<'k, H, D> {
     fn begin_unprotected(&mut self, kind: Kind, protected_at: u64, at: u64)
         requires protected_early { protected_at ≤ 36 }
         requires early { at < 2 ^ 17 }
-        ensures reads_on { (task : Task) (pairs : List Pair) → Shows task nothing_so_far self.old
+        ensures reads_on { (task : Task) (pairs : List Pair)
+            → HasFindings task nothing_so_far self.old
             → bucket_of D (placed_at protected_at self.old.protected.items) ≡ Ok pairs
             → ReaderMeans task [] at self.new
             (λ more. unprotected (rules_of H D task) kind self.old.protected.items pairs at more) }
@@ -191,7 +192,7 @@ impl<'k, const H: usize, const D: usize> Reader<'k, H, D> {
         requires early { at < 2 ^ 17 }
         ensures reads_on { (task : Task) (pairs : List Pair)
             → keys_in K.usable keys.entry ≡ keys_for task → elsewhere ≡ asks task
-            → Shows task (protected_so_far pairs) self.old
+            → HasFindings task (protected_so_far pairs) self.old
             → bucket_of D (placed_at protected_at self.old.protected.items) ≡ Ok pairs
             → ReaderMeans task [] (at + length self.old.unprotected.items) self.new
             (λ more. past_unprotected (rules_of H D task) kind self.old.protected.items pairs at

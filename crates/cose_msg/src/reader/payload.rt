@@ -64,7 +64,7 @@ impl<'k, const H: usize, const D: usize> Reader<'k, H, D> {
     ghost use Rattle.cose_msg.specs.Phases.{detached_payload, headers_so_far, past_payload_head, payload, payload_head};
     ghost use Rattle.cose_msg.specs.Reading.{Reading};
     ghost use Rattle.cose_msg.specs.Task.{Task, rules_of};
-    ghost use Rattle.cose_msg.specs.Reader.{HoldsKey, IsAtPayload, Known, Shows, ReaderMeans, held_by, opened_by};
+    ghost use Rattle.cose_msg.specs.Reader.{HoldsKey, IsAtPayload, Known, HasFindings, ReaderMeans, held_by, opened_by};
     ghost use Rattle.cose_msg.specs.declared.status.Status.{Status};
     ghost use Rattle.cose_msg.specs.Phase.{in_payload, payload_want_of, want_of};
     ghost use Rattle.cose_msg.specs.Status.{is_open, status_of_phase};
@@ -74,7 +74,7 @@ impl<'k, const H: usize, const D: usize> Reader<'k, H, D> {
     pub(crate) fn begin_payload_head(&mut self, kind: Kind, is_bare: bool, at: u64)
         requires early { at < 2 ^ 18 }
         ensures reads_on { (task : Task) (known : Known)
-            → Shows task (headers_so_far known.headers []) self.old → known.payload ≡ []
+            → HasFindings task (headers_so_far known.headers []) self.old → known.payload ≡ []
             → HoldsKey task known self.old kind → known.headers.protected ≡ self.old.protected.items
             → is_bare ≡ (length known.headers.protected_pairs == 0)
             → HashesFor self.old.hashing known.chosen []
@@ -115,7 +115,7 @@ impl<'k, const H: usize, const D: usize> Reader<'k, H, D> {
     )
         requires early { at < 2 ^ 19 }
         ensures reads_on { (task : Task) (known : Known) → IsStated stated task.setting.source
-            → Shows task (headers_so_far known.headers []) self.old → known.payload ≡ []
+            → HasFindings task (headers_so_far known.headers []) self.old → known.payload ≡ []
             → HoldsKey task known self.old payload_head.kind
             → known.headers.protected ≡ self.old.protected.items
             → payload_head.is_bare ≡ (length known.headers.protected_pairs == 0)
@@ -146,7 +146,7 @@ impl<'k, const H: usize, const D: usize> Reader<'k, H, D> {
     /// or an empty string where the bucket has no pair.
     fn hash_front(&mut self, head: PayloadHead, payload_length: u64)
         ensures opened { (task : Task) (known : Known)
-            → Shows task (headers_so_far known.headers []) self.old → known.payload ≡ []
+            → HasFindings task (headers_so_far known.headers []) self.old → known.payload ≡ []
             → HoldsKey task known self.old head.kind
             → known.headers.protected ≡ self.old.protected.items
             → head.is_bare ≡ (length known.headers.protected_pairs == 0)

@@ -223,7 +223,7 @@ fn detached_reply<const H: usize, const D: usize, const N: usize, I: Intake, P: 
 }
 
 /// The same within the limits of the checks.
-fn reply_beside<I: Intake, P: Intake>(
+fn reply_to_detached<I: Intake, P: Intake>(
     alloc: Global,
     question: &Question,
     checks: &Checks,
@@ -279,7 +279,7 @@ fn reply_with_bytes<I: Intake>(
     payload_stays();
     let payload_length = payload.len() as u64;
     let mut payload = SliceIntake::new(payload, CHUNK);
-    reply_beside(
+    reply_to_detached(
         alloc,
         question,
         checks,
@@ -313,7 +313,7 @@ fn reply_with_file<I: Intake, R: Read>(
     // Laws of messages that the proof cites: what comes of a payload changes nothing where none of it is wanted.
     deciding_goes_last();
     payload_stays();
-    match reply_beside(alloc, question, checks, payload_length, payload, intake) {
+    match reply_to_detached(alloc, question, checks, payload_length, payload, intake) {
         Ok(reply) => Ok(reply),
         Err(_) if payload.has_failed() => Err(Fault::File("payload-file")),
         Err(fault) => Err(fault),

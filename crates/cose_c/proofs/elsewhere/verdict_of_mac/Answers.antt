@@ -12,9 +12,9 @@ use Rattle.cose_c.proofs.elsewhere.verdict_of_mac.Goals.{then-not-is_ready-via-t
 pub returns-then-not-is_ready-clause-verdict : goal.returns-then-not-is_ready-clause-verdict
 returns-then-not-is_ready-clause-verdict g c = λ setting taken payload found whole read is ready asked fits.
     let h = (read_in (to_verify_elsewhere setting) taken payload _ c.in-Some.verifier c.in-Some.is read).0 in
-    let here : is_ready (Some c.in-Some.verifier) ≡ true = subst (λ (content : Content g.row.H g.row.D). is_ready content ≡ true) c.in-Some.is ready in
+    let here : is_ready (Some c.in-Some.verifier) ≡ true = subst (λ (content : Content _ _ _ _). is_ready content ≡ true) c.in-Some.is ready in
     let framed : is_framed c.in-Some.verifier ≡ true =
-    right_of (is_elsewhere c.in-Some.verifier) (is_framed c.in-Some.verifier) (subst (λ (content : Content g.row.H g.row.D). is_asked content ≡ true) c.in-Some.is asked) in
+    right_of (is_elsewhere c.in-Some.verifier) (is_framed c.in-Some.verifier) (subst (λ (content : Content _ _ _ _). is_asked content ≡ true) c.in-Some.is asked) in
     elim c.then-not-is_ready.branch [
       | then-not-is_ready-via-then-not-is_ready w ↦ let clash : true ≡ false = sym (c.is_ready.ensures ∙ here) ∙ w.if-not-is_ready.true in absurd cc
       | then-not-is_ready-via-else-not-is_ready+then-not-takes_mac w ↦
@@ -25,7 +25,7 @@ pub returns-clause-other_length : goal.returns-clause-other_length
 returns-clause-other_length g c = λ setting taken payload found whole read is ready asked short.
     let h = (read_in (to_verify_elsewhere setting) taken payload _ c.in-Some.verifier c.in-Some.is read).0 in
     let framed : is_framed c.in-Some.verifier ≡ true =
-    right_of (is_elsewhere c.in-Some.verifier) (is_framed c.in-Some.verifier) (subst (λ (content : Content g.row.H g.row.D). is_asked content ≡ true) c.in-Some.is asked) in
+    right_of (is_elsewhere c.in-Some.verifier) (is_framed c.in-Some.verifier) (subst (λ (content : Content _ _ _ _). is_asked content ≡ true) c.in-Some.is asked) in
     let clash : true ≡ false = sym c.if-not-takes_mac.false ∙ c.takes_mac.ensures.whole setting taken payload found whole h is framed ∙ short in
     absurd cc
 

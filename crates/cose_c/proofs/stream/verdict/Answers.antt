@@ -1,12 +1,12 @@
-use Rattle.std.proofs.Common.{◌≡◌, true, false, ap, subst, sym, ◌∙◌}
+use Rattle.std.proofs.Common.{◌≡◌, true, false, ap, sym, ◌∙◌}
 use Rattle.cose_msg.specs.declared.verdict.Verdict.{Verdict}
 use Rattle.cose_msg.specs.Answer.{decided}
 use Rattle.cose_msg.specs.Kept.{is_inspecting}
 use Rattle.cose_msg.specs.Status.{is_complete, status_in}
 use Rattle.cose_msg.specs.Task.{Task, to_verify}
 use Rattle.cose_c.specs.Numbers.{always_authentic, no_message, verdict_numbers}
-use Rattle.cose_c.specs.Stream.{Content, has_verdict, is_decidable}
-use Rattle.cose_c.proofs.Streams.{decidable, read_in}
+use Rattle.cose_c.specs.Stream.{is_decidable}
+use Rattle.cose_c.proofs.Streams.{decidable, decidable_in, read_in}
 use Rattle.cose_c.proofs.stream.verdict.Goals as goal
 
 pub returns-then-not-is_decidable-clause-verdict : goal.returns-then-not-is_decidable-clause-verdict
@@ -31,7 +31,7 @@ returns-in-Refused-clause-verdict g c = λ setting taken payload read complete.
 
 pub returns-then-not-is_decidable-clause-kept : goal.returns-then-not-is_decidable-clause-kept
 returns-then-not-is_decidable-clause-kept g c = λ has.
-    let here : is_decidable c.in-Some.verifier ≡ true = subst (λ (content : Content g.row.H g.row.D). has_verdict content ≡ true) c.in-Some.is has in
+    let here : is_decidable c.in-Some.verifier ≡ true = decidable_in _ c.in-Some.verifier c.in-Some.is has in
     let clash : true ≡ false = sym (c.is_decidable.ensures ∙ here) ∙ c.if-not-is_decidable.true in
     absurd cc
 

@@ -20,7 +20,7 @@ use Rattle.cose_msg.specs.declared.make.MakeFault.TheVariants as faults
 use Rattle.cose_msg.specs.Make.{Makes, answer_over, stops_for_sink}
 use Rattle.cose_msg.specs.Writes.{Feeds, Seen, Streams, Writes, front_of}
 use Rattle.cose_msg.specs.Making.{auth_made, made, protected_made}
-use Rattle.cose_msg.specs.Sink.{AppendsFront, IsFront}
+use Rattle.cose_msg.specs.Sink.{AppendsFront, IsPrefix}
 use Rattle.cose_msg.proofs.lemmas.Made.Making.{in_parts}
 use Rattle.cose_msg.proofs.lemmas.Made.Puts.{front_of_more}
 use Rattle.cose_msg.proofs.lemmas.Run.Runs.{AppendsFront-then}
@@ -34,14 +34,14 @@ all_appended old new bytes p = (bytes, ([], sym (append-nil bytes)), p)
 
 -- Where a prefix of what was taken went to the sink, it is a prefix of the message of every payload that begins so.
 front_of_each : (message : List ℕ → List ℕ) (n : ℕ) (front : List ℕ) (tail : List ℕ → List ℕ) (taken : List ℕ) (old new : Option (List ℕ)) → IsInParts message n front tail → AppendsFront old new (front ++ taken) →
-    (payload : List ℕ) → length payload ≡ n → IsFront payload taken → AppendsFront old new (message payload)
+    (payload : List ℕ) → length payload ≡ n → IsPrefix payload taken → AppendsFront old new (message payload)
 front_of_each message n front tail taken old new parts p payload count (rest, whole) =
     let regrouped : message payload ≡ (front ++ taken) ++ (rest ++ tail payload) =
     parts payload count ∙ ap (λ (t : List ℕ). front ++ (t ++ tail payload)) whole ∙ ap (λ (t : List ℕ). front ++ t) (append_assoc taken rest (tail payload)) ∙ sym (append_assoc front taken (rest ++ tail payload)) in
     subst (λ (t : List ℕ). AppendsFront old new t) (sym regrouped) (front_of_more old new (front ++ taken) (rest ++ tail payload) p)
 
 -- A payload that begins with these bytes, and has as many, is these bytes.
-same_payload : (n : ℕ) (payload taken : List ℕ) → length payload ≡ n → length taken ≡ n → IsFront payload taken → payload ≡ taken
+same_payload : (n : ℕ) (payload taken : List ℕ) → length payload ≡ n → length taken ≡ n → IsPrefix payload taken → payload ≡ taken
 same_payload n payload taken count all (rest, whole) =
     let none : rest ≡ [] = nil_from_length rest (omega (arith, count, all, ap length whole, length-append taken rest)) in
     whole ∙ ap (λ (t : List ℕ). taken ++ t) none ∙ append-nil taken

@@ -10,7 +10,7 @@ use Rattle.cose_msg.specs.Reading.{Reading, Findings}
 use Rattle.cose_head.specs.Head.{IsMore, bare_head}
 use Rattle.cose_msg.specs.Source.{source_with, with_came}
 use Rattle.cose_msg.specs.Task.{Task, given_to}
-use Rattle.cose_msg.specs.Reader.{HoldsIn, Known, Shows, ReaderMeans, setting_with}
+use Rattle.cose_msg.specs.Reader.{HoldsIn, Known, HasFindings, ReaderMeans, setting_with}
 
 -- Where nothing is known yet, any value will do.
 abbrev pub unknown : List ℕ → Known
@@ -54,8 +54,8 @@ moved {H} {D} {task} {B} {B'} {n} {n'} v new old same_payload same_count same h 
 }
 
 -- What is known may be given by an equal value.
-pub shows_as : {H D : ℕ} (task : Task) (v : Reader H D) (so_far other : Findings) → so_far ≡ other → Shows task so_far v → Shows task other v
-shows_as task v so_far other same h = subst (λ (t : Findings). Shows task t v) same h
+pub shows_as : {H D : ℕ} (task : Task) (v : Reader H D) (so_far other : Findings) → so_far ≡ other → HasFindings task so_far v → HasFindings task other v
+shows_as task v so_far other same h = subst (λ (t : Findings). HasFindings task t v) same h
 
 -- One byte more of a head is held, and it isn't whole.
 pub holds_more : (at n byte : ℕ) (held now : List ℕ) → n ≡ at + length held → now ≡ held ++ byte ∷ [] → IsMore (bare_head (held ++ byte ∷ [])) → IsMore (bare_head now) × (n + 1 ≡ at + length now)

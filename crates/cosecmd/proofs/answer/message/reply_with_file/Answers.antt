@@ -10,7 +10,7 @@ use Rattle.cosecmd.proofs.answer.message.reply_with_file.Goals as goal
 pub returns-in-Ok-clause-says : goal.returns-in-Ok-clause-says
 returns-in-Ok-clause-says g c = λ bytes content e told.
     let stated = c.args.payload_length in
-    let after = c.reply_beside.new.payload in
+    let after = c.reply_to_detached.new.payload in
     let small : stated < 2 ^ 64 = search rules in
     let small_left : after.left < 2 ^ 64 = after.in_range in
     let reply : Result Reply Fault = Ok c.in-Ok.reply in

@@ -1,0 +1,81 @@
+//! A verifier in the caller's memory, of header buckets of at most 256 bytes.
+
+ghost use Rattle.std.specs.Prelude.{◌≡◌, None};
+ghost use Rattle.std.specs.Borrow.{full_share, sem};
+ghost use Rattle.std.specs.Ptr.{lies_at};
+ghost use prog.Memory.{align, capped, size};
+ghost use denote.Param.{layout};
+ghost use denote.RawPtr.{room_at};
+ghost use Rattle.cose_c.specs.declared.held.device_verifier.HeldDeviceVerifier.{HeldDeviceVerifier};
+ghost use Rattle.cose_c.specs.contracts.held.device_verifier.HeldDeviceVerifier.{the_row};
+
+use crate::terms::{DEVICE_HEADER, DEVICE_NESTING};
+use cose_msg::Verifier;
+use std::marker::Model;
+use std::ptr;
+
+/// The value in a block: a verifier, once it is opened, and the number of its message.
+#[derive(Drop)]
+pub struct HeldDeviceVerifier {
+    pub(crate) message: u64,
+    pub(crate) content: Option<Verifier<'static, DEVICE_HEADER, DEVICE_NESTING>>,
+}
+
+/// The handle of a verifier: where its block is.
+#[repr(C)]
+pub struct CoseDeviceVerifier {
+    at: *mut u8,
+    pub ghost value: { HeldDeviceVerifier },
+}
+
+impl Model for CoseDeviceVerifier {
+    ghost also_owns = { λ handle. lies_at the_row full_share handle.at handle.value };
+}
+
+impl CoseDeviceVerifier {
+    ghost use Rattle.cose_c.specs.Held.{LendsDeviceVerifier};
+
+    /// The value in the block.
+    pub(crate) fn lend(&mut self) -> &mut HeldDeviceVerifier
+        ensures* writes_back { sem 𝓛 (LendsDeviceVerifier self.entry result) }
+        ensures value { result.now ≡ self.old.value }
+    {
+        unsafe { &mut *(self.at as *mut HeldDeviceVerifier) }
+    }
+}
+
+/// A value without a verifier.
+fn closed() -> HeldDeviceVerifier
+    ensures { result.content ≡ None }
+{
+    HeldDeviceVerifier {
+        message: 0,
+        content: None,
+    }
+}
+
+/// The number of bytes of a verifier's block.
+#[unsafe(no_mangle)]
+pub extern "C" fn cose_device_verifier_size() -> usize
+    ensures { result ≡ capped (size (layout the_row)) }
+{
+    size_of::<HeldDeviceVerifier>()
+}
+
+/// The alignment of its address.
+#[unsafe(no_mangle)]
+pub extern "C" fn cose_device_verifier_align() -> usize
+    ensures { result ≡ capped (align (layout the_row)) }
+{
+    align_of::<HeldDeviceVerifier>()
+}
+
+/// Makes the bytes at this address the block of a verifier that isn't opened.
+#[unsafe(no_mangle)]
+pub unsafe extern "C" fn cose_device_begin(at: *mut u8)
+    requires* { sem 𝓛 (room_at the_row at) }
+    ensures* { ∃ₛ λ (begun : HeldDeviceVerifier). sem 𝓛 (lies_at the_row full_share at begun)
+        ∗ ⌜ begun.content ≡ None ⌝ }
+{
+    ptr::write(at as *mut HeldDeviceVerifier, closed())
+}
