@@ -24,3 +24,4 @@ pub mod Tails
 pub mod Wider
 pub mod WorkedStated
 pub mod WorkedTerms
+pub mod WorkedTables

@@ -1,12 +1,12 @@
 -- Which keys of a set a caller permits: by their algorithm (RFC 9052 section 7.1), and by the length of a secret (RFC 9053 section 3.1).
-use Rattle.std.specs.Prelude.{ℕ, ℤ, pos, Bool, true, false, not, ◌&&◌, ◌||◌, List, filter, Option, Some, None, Ok, Err, if◌then◌else◌, is_some, option_and_then}
+use Rattle.std.specs.Prelude.{ℕ, ℤ, pos, Bool, true, false, not, ◌&&◌, ◌||◌, List, filter, Option, Some, None, if◌then◌else◌, is_some, option_and_then}
 use Rattle.std.specs.List.{list_any}
 use Rattle.std.specs.Ordering.{int_eq}
 use Rattle.cose_map.specs.Choice.{Question, fitting, integer_in_label}
 use Rattle.cose_map.specs.Key.Value.{KeyValue, MaterialValue, elliptic, symmetric}
 use Rattle.cose_map.specs.Label.{LabelValue, number, words}
 use Rattle.cose_map.specs.Map.Read.{Read}
-use Rattle.cose_map.specs.Restrictions.{allows_material, is_among}
+use Rattle.cose_map.specs.Restrictions.{allows_material, is_among, permitted_in as permitted_by}
 
 -- The numbers of the algorithms that are stated, and zeros; the fewest bytes of a secret; and whether keys for HMAC 256/64, and keys
 -- that name no algorithm, are permitted where no algorithm is stated.
@@ -58,5 +58,4 @@ abbrev pub permitted_of : PermissionValue → List KeyValue → List KeyValue
 permitted_of p keys = filter (permits p) keys
 
 abbrev pub permitted_in : PermissionValue → Read (List KeyValue) → Read (List KeyValue)
-permitted_in p (Ok keys) = Ok (permitted_of p keys)
-permitted_in p (Err refusal) = Err refusal
+permitted_in p read = permitted_by (permits p) read

@@ -20,8 +20,8 @@ use Rattle.cose_c.specs.Stated.{is_unknown, labels_stated, permission_stated, se
 use Rattle.cose_c.specs.Terms.{kinds_given}
 
 -- What a message is verified under by these terms, with these keys in the place of theirs; or why none is.
-abbrev pub keys_stated : CoseTerms → Read (List KeyValue) → Result Setting CoseStatus
-keys_stated terms keys =
+abbrev pub setting_by_terms : CoseTerms → Read (List KeyValue) → Result Setting CoseStatus
+setting_by_terms terms keys =
     if is_unknown terms then Err (plain_status 12)
     else setting_among terms (labels_stated terms.understood) keys (kinds_given terms.aad.now terms.kind)
 
@@ -30,7 +30,7 @@ abbrev pub permitted_table : PermissionValue → List ℕ → Read (List KeyValu
 permitted_table p bytes = table_of 64 (permitted_in p (keys_of bytes))
 
 abbrev pub setting_of_table : CoseTerms → Result Setting CoseStatus
-setting_of_table terms = keys_stated terms (permitted_table (permission_stated terms) terms.keys.now)
+setting_of_table terms = setting_by_terms terms (permitted_table (permission_stated terms) terms.keys.now)
 
 -- How many keys the table takes, or why it has none.
 abbrev pub table_numbers : Result Setting CoseStatus → CoseKeySet

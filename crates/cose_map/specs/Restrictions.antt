@@ -34,11 +34,10 @@ allows r key = allows_algorithm r.algorithms key.alg && allows_material r.least_
 abbrev pub allowed_of : RestrictionsValue → List KeyValue → List KeyValue
 allowed_of r keys = filter (allows r) keys
 
-abbrev pub allowed_in : RestrictionsValue → Read (List KeyValue) → Read (List KeyValue)
-allowed_in r (Ok keys) = Ok (allowed_of r keys)
-allowed_in r (Err refusal) = Err refusal
-
--- The same by any rule.
+-- The keys of a set by any rule.
 abbrev pub permitted_in : (KeyValue → Bool) → Read (List KeyValue) → Read (List KeyValue)
 permitted_in permitted (Ok keys) = Ok (filter permitted keys)
 permitted_in permitted (Err refusal) = Err refusal
+
+abbrev pub allowed_in : RestrictionsValue → Read (List KeyValue) → Read (List KeyValue)
+allowed_in r read = permitted_in (allows r) read

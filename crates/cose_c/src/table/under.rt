@@ -8,7 +8,7 @@ ghost use Rattle.cose_c.specs.Message.{Covers, input_given, is_accepted, payload
 ghost use Rattle.cose_c.specs.PermittedView.{permission_value};
 ghost use Rattle.cose_c.specs.Required.{GivesRequired, required_stated, required_value};
 ghost use Rattle.cose_c.specs.Table.{keys_in, keys_read, table_settings};
-ghost use Rattle.cose_c.specs.TableUnder.{keys_stated, permitted_table, setting_in_table, setting_kept, setting_left, setting_of_table, table_numbers};
+ghost use Rattle.cose_c.specs.TableUnder.{setting_by_terms, permitted_table, setting_in_table, setting_kept, setting_left, setting_of_table, table_numbers};
 
 use crate::admit::claims_of_token;
 use crate::cose_claims::{CoseClaims, no_claims};
@@ -33,7 +33,7 @@ use cose_msg::{Context, KeyTable, Verifier};
 #[inline(never)]
 fn stated_by(terms: &CoseTerms<'static>) -> Result<TableTerms, CoseStatus>
     ensures { (keys : List KeyValue)
-        → setting_in_table result keys ≡ keys_stated terms.now (Ok keys) }
+        → setting_in_table result keys ≡ setting_by_terms terms.now (Ok keys) }
 {
     if !is_known(terms) {
         return Err(plain_status(BAD_ARGUMENT));
