@@ -52,19 +52,19 @@ module _ {S : Type 0} {K : _} {task : Task} {taken before : List ℕ} {v : Verif
 
 -- What a verifier for a detached payload has of it is what came.
 came_is : (source : Source) (came more : List ℕ) → is_detached_from source ≡ true → with_came more (with_came came source) ≡ with_came came source → more ≡ came
-came_is (detached first stated) came more known e = cc
+came_is (detached first detached_length) came more known e = cc
 came_is attached came more known e = absurd cc
 
 pub payload_is : {S : Type 0} {K : _} {v : Verifier 256 4 S K} (setting : Setting) (came more taken : List ℕ) → is_detached_from setting.source ≡ true → HasTaken (to_verify (given came setting)) taken more v → more ≡ came
 payload_is setting came more taken known h = came_is setting.source came more known (ap (λ (t : Task). t.setting.source) h.came)
 
 -- At first none has come.
-none_yet : (stated : Option ℕ) → with_came [] (source_with [] stated) ≡ source_with [] stated
+none_yet : (detached_length : Option ℕ) → with_came [] (source_with [] detached_length) ≡ source_with [] detached_length
 none_yet None = refl
 none_yet (Some n) = refl
 
 pub as_given : {S : Type 0} {K : _} (v : Verifier 256 4 S K) → given [] (setting_in v) ≡ setting_in v
-as_given v = ap (λ (s : Source). record (setting_in v) { source = s }) (none_yet v.stated)
+as_given v = ap (λ (s : Source). record (setting_in v) { source = s }) (none_yet v.detached_length)
 
 -- What a verifier was made for.
 pub verifies : {S : Type 0} {K : _} (old v : Verifier 256 4 S K) → is_inspecting old ≡ false → HasTaken (task_of old) [] [] v → HasTaken (to_verify (setting_in old)) [] [] v

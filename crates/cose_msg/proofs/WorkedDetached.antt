@@ -13,7 +13,7 @@ use Rattle.cose_msg.proofs.WorkedMessages.{hex, Gives, reading, verdict_in, unde
 
 -- The verdict, where these bytes have come of a payload of so many.
 abbrev beside : List ℕ → ℕ → List ℕ → Answer
-beside came stated bytes = verdict_in (record (under plain) { source = detached came stated }) bytes
+beside came detached_length bytes = verdict_in (record (under plain) { source = detached came detached_length }) bytes
 
 -- In the place of the payload is nil, in one byte. A payload in the message is Attached, whatever its length.
 heads : Gives (beside [] 2) (
@@ -47,7 +47,7 @@ unfolding reading
 more_than_32_bits = refl
 
 abbrev limited : ℕ → ℕ → List ℕ → Answer
-limited limit stated bytes = verdict_in (record (under plain) { payload_limit = limit; source = detached [] stated }) bytes
+limited limit detached_length bytes = verdict_in (record (under plain) { payload_limit = limit; source = detached [] detached_length }) bytes
 
 over_the_limit : Gives (limited 1 2) ((hex "d18443a10105a0 f6", refused PayloadTooLong 7) ∷ [])
 unfolding reading

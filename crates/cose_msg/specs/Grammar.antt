@@ -62,12 +62,12 @@ auth_at s = payload_at s + length s.payload
 -- The payload's element: its bytes, or nil where the payload is detached.
 abbrev pub payload_element : Source → List ℕ → Item
 payload_element attached payload = byte_string payload
-payload_element (detached came stated) payload = simple 22
+payload_element (detached came detached_length) payload = simple 22
 
 -- A detached payload is the first bytes that have come, as many as are stated.
 abbrev pub HasCome : Source → List ℕ → Type 0
 HasCome attached payload = ⊤
-HasCome (detached came stated) payload = (stated ≤ length came) × (payload ≡ take stated came)
+HasCome (detached came detached_length) payload = (detached_length ≤ length came) × (payload ≡ take detached_length came)
 
 -- The bytes are a message by these rules, and it has these parts: an array of two header buckets, a payload, and a tag or
 -- signature, each within its limits; both buckets are good, alone and together, and there is the key that is asked for.

@@ -110,7 +110,7 @@ payload_at_most payload_limit = min payload_limit (2 ^ 56 - 1)
 -- The most bytes of it that are in the message: none of a detached one are.
 abbrev pub payload_inside : Source → ℕ → ℕ
 payload_inside attached payload_limit = payload_at_most payload_limit
-payload_inside (detached came stated) payload_limit = 0
+payload_inside (detached came detached_length) payload_limit = 0
 
 abbrev pub AuthIsAtMost : ℕ → Rules → Type 0
 AuthIsAtMost most rules = (headers : Headers) (chosen : Option Chosen) (n : ℕ) → rules.choice headers ≡ Ok chosen →

@@ -89,22 +89,22 @@ payload_head_fault rules = payload_fault_within rules.payload_limit
 
 -- A detached payload: its first bytes, as many as are stated. The tag or signature is read once they have come.
 abbrev pub detached_payload : Rules → Headers → Option Chosen → List ℕ → ℕ → ℕ → Phase
-detached_payload rules headers chosen came stated at place bytes =
-    if nat_lt (length came) stated then awaits (headers_so_far headers came) (stated - length came) at else
-    auth_head rules headers chosen (take stated came) place bytes
+detached_payload rules headers chosen came detached_length at place bytes =
+    if nat_lt (length came) detached_length then awaits (headers_so_far headers came) (detached_length - length came) at else
+    auth_head rules headers chosen (take detached_length came) place bytes
 
 -- The head in the place of one: nil. The number of bytes that is stated is not too large.
 abbrev pub nil_fault_within : ℕ → ℕ → Head → Option Reason
-nil_fault_within limit stated head =
-    if is_nil head then (if is_too_long limit stated then Some PayloadTooLong else None) else
+nil_fault_within limit detached_length head =
+    if is_nil head then (if is_too_long limit detached_length then Some PayloadTooLong else None) else
     if is_bytes_head head then Some Attached else Some WrongType
 
 abbrev pub past_payload_head_from : Source → Rules → Headers → Option Chosen → Next Head
 past_payload_head_from attached rules headers chosen at head =
     unless_fault (headers_so_far headers []) at (payload_head_fault rules head) (payload rules headers chosen head.arg)
-past_payload_head_from (detached came stated) rules headers chosen at head =
-    unless_fault (headers_so_far headers []) at (nil_fault_within rules.payload_limit stated head)
-    (detached_payload rules headers chosen came stated at)
+past_payload_head_from (detached came detached_length) rules headers chosen at head =
+    unless_fault (headers_so_far headers []) at (nil_fault_within rules.payload_limit detached_length head)
+    (detached_payload rules headers chosen came detached_length at)
 
 abbrev pub past_payload_head : Rules → Headers → Option Chosen → Next Head
 past_payload_head rules = past_payload_head_from rules.source rules

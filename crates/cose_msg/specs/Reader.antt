@@ -95,7 +95,7 @@ whole_of known auth_at taken = record {
 -- What follows the nil of a detached payload.
 abbrev pub past_nil : Source → Rules → Headers → Option Chosen → ℕ → ℕ → List ℕ → Reading
 past_nil attached rules headers chosen at = auth_head rules headers chosen []
-past_nil (detached came stated) rules headers chosen at = detached_payload rules headers chosen came stated at
+past_nil (detached came detached_length) rules headers chosen at = detached_payload rules headers chosen came detached_length at
 
 -- What is left of the definition: the phase, at the bytes that are held of it and those to come.
 abbrev pub left_in : {H D : ℕ} → Rules → Known → Findings → Reader H D → Phase → List ℕ → Reading

@@ -25,22 +25,22 @@ setting_of usable context = record {
 
 -- The same, where the length of a detached payload is stated, if there is one, and none of it has come.
 abbrev pub sourced : Option ℕ → Setting → Setting
-sourced stated setting = record setting { source = source_with [] stated }
+sourced detached_length setting = record setting { source = source_with [] detached_length }
 
 -- The same, where it is stated too whether the message is authenticated elsewhere.
 abbrev pub placed : Bool → Option ℕ → Setting → Setting
-placed elsewhere stated setting = record setting { source = source_with [] stated; elsewhere = elsewhere }
+placed elsewhere detached_length setting = record setting { source = source_with [] detached_length; elsewhere = elsewhere }
 
 -- The same, of a message that has its payload and isn't authenticated elsewhere.
 abbrev pub attaching : Setting → Setting
 attaching setting = record setting { source = attached; elsewhere = false }
 
 abbrev pub detaching : ℕ → Setting → Setting
-detaching stated setting = record setting { source = detached [] stated }
+detaching detached_length setting = record setting { source = detached [] detached_length }
 
 -- The setting that the verifier reads a message under, of whose payload, where it is detached, nothing has come.
 abbrev pub setting_in : {H D : ℕ} {S : Type 0} {K : _} → Verifier H D S K → Setting
-setting_in {K = K} v = setting_with (K.usable v.keys) (source_with [] v.stated) v.elsewhere v.reader.terms
+setting_in {K = K} v = setting_with (K.usable v.keys) (source_with [] v.detached_length) v.elsewhere v.reader.terms
 
 -- What it was made for.
 abbrev pub task_of : {H D : ℕ} {S : Type 0} {K : _} → Verifier H D S K → Task

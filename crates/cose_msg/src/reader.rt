@@ -167,10 +167,10 @@ impl<'k, const H: usize, const D: usize> Reader<'k, H, D> {
 
     /// Takes the next byte of a head. In any other phase nothing changes.
     #[inline(never)]
-    fn take_byte(&mut self, byte: u8, stated: Option<u64>)
+    fn take_byte(&mut self, byte: u8, detached_length: Option<u64>)
         requires { takes_bytes self.old.phase ≡ true }
         ensures { (task : Task) (payload : List ℕ) (n : ℕ) (reading : List ℕ → Reading)
-            → IsStated stated task.setting.source → ReaderMeans task payload n self.old reading
+            → IsStated detached_length task.setting.source → ReaderMeans task payload n self.old reading
             → ReaderMeans task payload (n + 1) self.new (λ more. reading (byte ∷ more)) }
     {
         match self.phase {
@@ -178,7 +178,7 @@ impl<'k, const H: usize, const D: usize> Reader<'k, H, D> {
             Phase::TagHead(head) => self.tag_head(head, byte),
             Phase::ArrayHead(head) => self.array_head(head, byte),
             Phase::ProtectedHead(head) => self.protected_head(head, byte),
-            Phase::PayloadHead(head) => self.payload_head(head, byte, stated),
+            Phase::PayloadHead(head) => self.payload_head(head, byte, detached_length),
             Phase::AuthHead(head) => self.auth_head(head, byte),
             _ => {}
         }
@@ -194,7 +194,7 @@ impl<'k, const H: usize, const D: usize> Reader<'k, H, D> {
         piece: &[u8],
         keys: Option<&K>,
         elsewhere: bool,
-        stated: Option<u64>,
+        detached_length: Option<u64>,
     ) -> usize
         requires some { 0 < length piece.now }
         ensures fits { result ≤ length piece.now }
@@ -202,7 +202,7 @@ impl<'k, const H: usize, const D: usize> Reader<'k, H, D> {
         ensures whole { length piece.now ≤ want_of self.old.phase → result ≡ length piece.now }
         ensures reads_on { (task : Task) (payload : List ℕ) (n : ℕ) (reading : List ℕ → Reading)
             → keys_in K.usable keys.entry ≡ keys_for task → elsewhere ≡ asks task
-            → IsStated stated task.setting.source
+            → IsStated detached_length task.setting.source
             → ReaderMeans task payload n self.old reading
             → ReaderMeans task (grown self.old.phase payload (take result piece.now)) (n + result)
             self.new (λ more. reading (take result piece.now ++ more)) }
@@ -230,7 +230,7 @@ impl<'k, const H: usize, const D: usize> Reader<'k, H, D> {
             }
             _ if self.is_settled() => 0,
             _ => {
-                self.take_byte(piece[0], stated);
+                self.take_byte(piece[0], detached_length);
                 1
             }
         }

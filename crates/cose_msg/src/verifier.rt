@@ -27,7 +27,7 @@ pub struct Verifier<'k, const H: usize, const D: usize, S: Keys<'k> = KeySet<'k>
     /// Whether an inspection is one whose message is authenticated elsewhere.
     elsewhere: bool,
     /// The number of bytes of a detached payload; none where the message has its payload.
-    stated: Option<u64>,
+    detached_length: Option<u64>,
     pub(crate) reader: Reader<'k, H, D>,
     keys: S,
     // (The meaning of the keys belongs to the type of a verifier in a contract, since a field of it names them.)
@@ -50,26 +50,31 @@ impl<'k, const H: usize, const D: usize, S: Keys<'k>> Verifier<'k, H, D, S> {
     ghost use Rattle.cose_msg.specs.Verifier.{attaching, detaching, is_detached, is_elsewhere, placed, setting_in, setting_of, task_of};
 
     /// A verifier for any purpose, of a message that has its payload, or of one with a detached payload of this length.
-    fn made(context: Context<'k, S>, inspecting: bool, elsewhere: bool, stated: Option<u64>) -> Self
+    fn made(
+        context: Context<'k, S>,
+        inspecting: bool,
+        elsewhere: bool,
+        detached_length: Option<u64>,
+    ) -> Self
         requires some_room { 16 ≤ H }
         requires limit { H ≤ 65535 }
         requires nesting { D ≤ 32 }
         ensures none_taken { HasTaken
             (record {
-              setting = placed elsewhere stated (setting_of S.usable context.entry);
+              setting = placed elsewhere detached_length (setting_of S.usable context.entry);
               inspects = inspecting;
             })
             [] [] result }
         ensures shows { ShowsReading
             (record {
-              setting = placed elsewhere stated (setting_of S.usable context.entry);
+              setting = placed elsewhere detached_length (setting_of S.usable context.entry);
               inspects = inspecting;
             })
             [] result }
         ensures status { status_in result ≡ Status.More }
         ensures held { held result ≡ 256 }
         ensures context { setting_in result
-            ≡ placed elsewhere stated (setting_of S.usable context.entry) }
+            ≡ placed elsewhere detached_length (setting_of S.usable context.entry) }
         ensures inspects { is_inspecting result ≡ inspecting }
     {
         let Context {
@@ -85,7 +90,7 @@ impl<'k, const H: usize, const D: usize, S: Keys<'k>> Verifier<'k, H, D, S> {
             stopped: false,
             inspecting,
             elsewhere,
-            stated,
+            detached_length,
             reader: Reader::new(Terms {
                 aad,
                 wanted,
@@ -166,7 +171,7 @@ impl<'k, const H: usize, const D: usize, S: Keys<'k>> Verifier<'k, H, D, S> {
     pub fn is_detached(&self) -> bool
         ensures { result ≡ is_detached self.now }
     {
-        self.stated.is_some()
+        self.detached_length.is_some()
     }
 
     /// Resets the verifier, in the same context and for the same purpose.

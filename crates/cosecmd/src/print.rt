@@ -41,7 +41,7 @@ fn write_bytes<W: Write>(output: &mut W, bytes: &[u8]) -> bool
 
 /// Writes a text whole, and returns how the run ends: with the status of the text, or with a fault where the writer
 /// failed.
-#[tactic(auto, using(crate::proofs::WrittenPieces::whole_front, crate::proofs::WrittenPieces::part_front))]
+#[tactic(auto, using(crate::proofs::lemmas::Payloads::WrittenPieces::whole_front, crate::proofs::lemmas::Payloads::WrittenPieces::part_front))]
 pub fn print<W: Write>(output: &mut W, text: &str, status: Status) -> Status
     ensures status { result ≢ Status.Fault → result ≡ status }
     ensures written { result ≢ Status.Fault

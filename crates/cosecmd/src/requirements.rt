@@ -68,7 +68,7 @@ fn and_audience(mut claims: Vec<Claim>) -> Result<Vec<Claim>, AllocError>
 }
 
 /// Whether a token has to name an audience, and any will do.
-#[tactic(auto, using(crate::proofs::RequiredOptions::none_given))]
+#[tactic(auto, using(crate::proofs::lemmas::Arguments::RequiredOptions::none_given))]
 fn wants_any_audience(matches: &ArgMatches) -> bool
     ensures { result ≡ spec.wants_any_audience (options_of matches.now) }
 {
@@ -76,7 +76,7 @@ fn wants_any_audience(matches: &ArgMatches) -> bool
 }
 
 /// The claims that have to be present.
-#[tactic(auto, using(crate::proofs::RequiredOptions::present_known))]
+#[tactic(auto, using(crate::proofs::lemmas::Arguments::RequiredOptions::present_known))]
 fn present_of(alloc: Global, matches: &ArgMatches) -> Result<Vec<Claim>, Fault>
     ensures { IfOk result (λ claims. spec.present_in (options_of matches.now) ≡ Some claims.items) }
 {
@@ -88,7 +88,7 @@ fn present_of(alloc: Global, matches: &ArgMatches) -> Result<Vec<Claim>, Fault>
 }
 
 /// The audience that has to be named.
-#[tactic(auto, using(crate::proofs::RequiredOptions::audience_where))]
+#[tactic(auto, using(crate::proofs::lemmas::Arguments::RequiredOptions::audience_where))]
 fn audience_of<'a>(matches: &ArgMatches<'a>) -> Option<&'a str>
     ensures { option_map text_value result
         ≡ spec.audience_required (flag_in (codes "require-aud") (options_of matches.now))

@@ -33,11 +33,11 @@ pub(crate) fn fault_of_payload(head: &Head, limit: u64) -> Option<Reason>
 
 /// What is wrong with the head in the place of a detached payload, of which `stated` bytes are to come, where a payload may
 /// have `limit` bytes.
-pub(crate) fn fault_of_nil(head: &Head, stated: u64, limit: u64) -> Option<Reason>
-    ensures { result ≡ nil_fault_within limit stated head.now }
+pub(crate) fn fault_of_nil(head: &Head, detached_length: u64, limit: u64) -> Option<Reason>
+    ensures { result ≡ nil_fault_within limit detached_length head.now }
 {
     if is_nil(head) {
-        if stated >= 1 << 56 || stated > limit {
+        if detached_length >= 1 << 56 || detached_length > limit {
             return Some(Reason::PayloadTooLong);
         }
         return None;
@@ -86,10 +86,15 @@ impl<'k, const H: usize, const D: usize> Reader<'k, H, D> {
     }
 
     /// Takes the next byte of the payload's head. A detached payload has the length that is stated.
-    pub(crate) fn payload_head(&mut self, payload_head: PayloadHead, byte: u8, stated: Option<u64>)
+    pub(crate) fn payload_head(
+        &mut self,
+        payload_head: PayloadHead,
+        byte: u8,
+        detached_length: Option<u64>,
+    )
         requires phase { self.old.phase ≡ Phase.PayloadHead payload_head }
         ensures reads_on { (task : Task) (payload : List ℕ) (n : ℕ) (reading : List ℕ → Reading)
-            → IsStated stated task.setting.source → ReaderMeans task payload n self.old reading
+            → IsStated detached_length task.setting.source → ReaderMeans task payload n self.old reading
             → ReaderMeans task payload (n + 1) self.new (λ more. reading (byte ∷ more)) }
     {
         let at = payload_head.at;
@@ -100,7 +105,7 @@ impl<'k, const H: usize, const D: usize> Reader<'k, H, D> {
                 payload_head,
                 head,
                 at + used as u64,
-                stated,
+                detached_length,
             ),
         }
     }
@@ -111,10 +116,10 @@ impl<'k, const H: usize, const D: usize> Reader<'k, H, D> {
         payload_head: PayloadHead,
         head: Head,
         at: u64,
-        stated: Option<u64>,
+        detached_length: Option<u64>,
     )
         requires early { at < 2 ^ 19 }
-        ensures reads_on { (task : Task) (known : Known) → IsStated stated task.setting.source
+        ensures reads_on { (task : Task) (known : Known) → IsStated detached_length task.setting.source
             → HasFindings task (headers_so_far known.headers []) self.old → known.payload ≡ []
             → HoldsKey task known self.old payload_head.kind
             → known.headers.protected ≡ self.old.protected.items
@@ -124,12 +129,12 @@ impl<'k, const H: usize, const D: usize> Reader<'k, H, D> {
             known.headers known.chosen payload_head.at head at more) }
     {
         let limit = self.terms.payload_limit;
-        match stated {
-            Some(stated) => match fault_of_nil(&head, stated, limit) {
+        match detached_length {
+            Some(detached_length) => match fault_of_nil(&head, detached_length, limit) {
                 Some(reason) => self.refuse(reason, payload_head.at),
                 None => {
-                    self.hash_front(payload_head, stated);
-                    self.await_payload(payload_head.kind, payload_head.at, at, stated);
+                    self.hash_front(payload_head, detached_length);
+                    self.await_payload(payload_head.kind, payload_head.at, at, detached_length);
                 }
             },
             None => match fault_of_payload(&head, limit) {
@@ -181,16 +186,16 @@ impl<'k, const H: usize, const D: usize> Reader<'k, H, D> {
     }
 
     /// A detached payload is awaited, unless it is empty: the nil is at `nil`, and the message goes on at `at`.
-    fn await_payload(&mut self, kind: Kind, nil: u64, at: u64, stated: u64)
+    fn await_payload(&mut self, kind: Kind, nil: u64, at: u64, detached_length: u64)
         requires early { at < 2 ^ 19 }
-        requires limit { stated < 2 ^ 56 }
+        requires limit { detached_length < 2 ^ 56 }
         ensures reads_on { (task : Task) (known : Known) (came : List ℕ)
-            → IsAtPayload task known self.old kind stated
-            → task.setting.source ≡ detached came stated
+            → IsAtPayload task known self.old kind detached_length
+            → task.setting.source ≡ detached came detached_length
             → ReaderMeans task [] at self.new (λ more. detached_payload (rules_of H D task)
-            known.headers known.chosen came stated nil at more) }
+            known.headers known.chosen came detached_length nil at more) }
     {
-        if stated == 0 {
+        if detached_length == 0 {
             self.begin_auth_head(kind, at, 0);
             return;
         }
@@ -198,8 +203,8 @@ impl<'k, const H: usize, const D: usize> Reader<'k, H, D> {
             kind,
             at: nil,
             after: at,
-            length: stated,
-            left: stated,
+            length: detached_length,
+            left: detached_length,
         });
     }
 

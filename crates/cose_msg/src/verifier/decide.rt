@@ -98,7 +98,8 @@ impl<'k, const H: usize, const D: usize, S: Keys<'k>> Verifier<'k, H, D, S> {
         let elsewhere = self.is_elsewhere();
         let keyless = self.is_keyless();
         let keys = keys_to_choose_from(&self.keys, keyless);
-        self.reader.advance(piece, keys, elsewhere, self.stated);
+        self.reader
+            .advance(piece, keys, elsewhere, self.detached_length);
         self.reader.lemma_bounded();
         self.taken += piece.len() as u64;
     }

@@ -9,7 +9,7 @@ use cose_cwt::{Claim, Requirement, Unmet};
 use std::alloc::{AllocError, Global};
 
 /// The word that is printed where a claim is absent: `Present`, and the claim's name with its first letter in upper case.
-#[tactic(auto, using(crate::proofs::RequiredOptions::first_letter))]
+#[tactic(auto, using(crate::proofs::lemmas::Arguments::RequiredOptions::first_letter))]
 fn presence_word(alloc: Global, claim: Claim) -> Result<String, AllocError>
     ensures { IfOk result (λ word. string_bytes word ≡ spec.presence_word claim) }
 {

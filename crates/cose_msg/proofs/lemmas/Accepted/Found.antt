@@ -55,12 +55,12 @@ both_tests : (b c : Bool) → (b && c) ≡ true → (b ≡ true) × (c ≡ true)
 both_tests true c e = (refl, e)
 both_tests false c e = absurd cc
 
-nil_passes : (limit stated : ℕ) (head : Head) → nil_fault_within limit stated head ≡ None → (head.major ≡ 7) × (head.width ≡ 1) × (head.arg ≡ 22) × (is_too_long limit stated ≡ false)
-nil_passes limit stated head e =
-    let both = first_test (is_nil head) (cond (is_too_long limit stated) (Some PayloadTooLong) None) (cond (is_bytes_head head) (Some Attached) (Some WrongType)) (some_reason (is_bytes_head head) Attached WrongType) e in
+nil_passes : (limit detached_length : ℕ) (head : Head) → nil_fault_within limit detached_length head ≡ None → (head.major ≡ 7) × (head.width ≡ 1) × (head.arg ≡ 22) × (is_too_long limit detached_length ≡ false)
+nil_passes limit detached_length head e =
+    let both = first_test (is_nil head) (cond (is_too_long limit detached_length) (Some PayloadTooLong) None) (cond (is_bytes_head head) (Some Attached) (Some WrongType)) (some_reason (is_bytes_head head) Attached WrongType) e in
     let major = both_tests (head.major == 7) (head.width == 1 && head.arg == 22) both.0 in
     let others = both_tests (head.width == 1) (head.arg == 22) major.1 in
-    (eqb-true head.major 7 major.0, eqb-true head.width 1 others.0, eqb-true head.arg 22 others.1, passes_not (is_too_long limit stated) PayloadTooLong both.1)
+    (eqb-true head.major 7 major.0, eqb-true head.width 1 others.0, eqb-true head.arg 22 others.1, passes_not (is_too_long limit detached_length) PayloadTooLong both.1)
 
 -- nil is spelled by its head alone.
 nil_spelled : (part : List ℕ) (head : Head) → IsHead part head.major head.arg → length part ≡ head.width → head.major ≡ 7 → head.width ≡ 1 → head.arg ≡ 22 → Spells part (simple 22)
@@ -138,22 +138,22 @@ module _ (answer : Answer) (unrefused : NotRefused answer) (laws : SpellingLaws)
       let s = string_found answer unrefused laws (headers_so_far headers []) (headers_so_far headers) (payload_head_fault rules) (λ n. is_too_long rules.payload_limit n ≡ false)
       (payload_passes rules.payload_limit) (λ at. past_payload rules headers chosen) place bytes comes in
       record { payload = s.content; part = s.part; rest = s.rest; is = s.is; spelled = s.spelled; come = tt; fits = s.fits; next = auth_found headers chosen s.content (place + length s.part) s.rest s.comes }
-  payload_found_from (detached came stated) headers chosen place bytes comes =
-      let h = head_found answer unrefused laws (headers_so_far headers []) (past_payload_head_from (detached came stated) rules headers chosen) place bytes comes in
-      let tested = unless_fault_found answer unrefused (headers_so_far headers []) place (nil_fault_within rules.payload_limit stated h.head) (detached_payload rules headers chosen came stated place) (place + length h.part) h.rest h.comes in
-      let nil = nil_passes rules.payload_limit stated h.head tested.0 in
-      let there = past_refusal answer unrefused (nat_lt (length came) stated) (awaits (headers_so_far headers came) (stated - length came) place) (auth_head rules headers chosen (take stated came) (place + length h.part) h.rest) (unrefused Truncated place) tested.1 in
-      let enough : stated ≤ length came = ltb-false (length came) stated there.0 in
-      let long : length (take stated came) ≡ stated = length-take-le stated came enough in
+  payload_found_from (detached came detached_length) headers chosen place bytes comes =
+      let h = head_found answer unrefused laws (headers_so_far headers []) (past_payload_head_from (detached came detached_length) rules headers chosen) place bytes comes in
+      let tested = unless_fault_found answer unrefused (headers_so_far headers []) place (nil_fault_within rules.payload_limit detached_length h.head) (detached_payload rules headers chosen came detached_length place) (place + length h.part) h.rest h.comes in
+      let nil = nil_passes rules.payload_limit detached_length h.head tested.0 in
+      let there = past_refusal answer unrefused (nat_lt (length came) detached_length) (awaits (headers_so_far headers came) (detached_length - length came) place) (auth_head rules headers chosen (take detached_length came) (place + length h.part) h.rest) (unrefused Truncated place) tested.1 in
+      let enough : detached_length ≤ length came = ltb-false (length came) detached_length there.0 in
+      let long : length (take detached_length came) ≡ detached_length = length-take-le detached_length came enough in
       record {
-        payload = take stated came;
+        payload = take detached_length came;
         part = h.part;
         rest = h.rest;
         is = h.is;
         spelled = nil_spelled h.part h.head h.is_head h.wide nil.0 nil.1 nil.2;
         come = (enough, refl);
         fits = ap (is_too_long rules.payload_limit) long ∙ nil.3;
-        next = auth_found headers chosen (take stated came) (place + length h.part) h.rest there.1;
+        next = auth_found headers chosen (take detached_length came) (place + length h.part) h.rest there.1;
       }
 
   payload_found : (headers : Headers) (chosen : Option Chosen) (place : ℕ) (bytes : List ℕ) → Comes (payload_head rules headers chosen) place bytes answer → PayloadFound rules.source rules headers chosen place bytes answer

@@ -37,10 +37,10 @@ pub record IsFramed {H D : ℕ} (task : Task) (known : Known) (so_far : Findings
   pub gives : (more : List ℕ) (whole : Whole) → (left_in (rules_of H D task) known so_far v phase more).answer ≡ complete whole →
       (whole.headers ≡ known.headers) × (whole.chosen ≡ known.chosen) × (length whole.payload ≡ frame.payload)
 
-past_nil-gives : (source : Source) (rules : Rules) → Reads rules → (headers : Headers) (chosen : Option Chosen) (came : List ℕ) (stated at after : ℕ) → source ≡ detached came stated → (more : List ℕ) (whole : Whole) → (past_nil source rules headers chosen at after more).answer ≡ complete whole →
-    (whole.headers ≡ headers) × (whole.chosen ≡ chosen) × (length whole.payload ≡ stated)
-past_nil-gives source rules reads headers chosen came stated at after is more whole e =
-    detached_payload-gives rules reads headers chosen came stated at after more whole (rw is at e)
+past_nil-gives : (source : Source) (rules : Rules) → Reads rules → (headers : Headers) (chosen : Option Chosen) (came : List ℕ) (detached_length at after : ℕ) → source ≡ detached came detached_length → (more : List ℕ) (whole : Whole) → (past_nil source rules headers chosen at after more).answer ≡ complete whole →
+    (whole.headers ≡ headers) × (whole.chosen ≡ chosen) × (length whole.payload ≡ detached_length)
+past_nil-gives source rules reads headers chosen came detached_length at after is more whole e =
+    detached_payload-gives rules reads headers chosen came detached_length at after more whole (rw is at e)
 
 with_payload : (headers : Headers) (chosen : Option Chosen) (payload : List ℕ) (n : ℕ) (whole : Whole) → length payload ≡ n → (whole.headers ≡ headers) × (whole.chosen ≡ chosen) × (length whole.payload ≡ length payload) → (whole.headers ≡ headers) × (whole.chosen ≡ chosen) × (length whole.payload ≡ n)
 with_payload headers chosen payload n whole count is = (is.0, is.1, is.2 ∙ count)

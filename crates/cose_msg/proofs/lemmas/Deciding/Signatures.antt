@@ -92,13 +92,13 @@ module _ (rules : Rules) (ends : (w whole : Whole) → rules.finish w ≡ comple
   payload-picks : (headers : Headers) (chosen : Option Chosen) (n : ℕ) → rules.choice headers ≡ Ok chosen → Picks (payload rules headers chosen n)
   payload-picks headers chosen n is = with_string-picks (headers_so_far headers) n (past_payload rules headers chosen) (λ at B. auth_head-picks headers chosen B is)
 
-  detached_payload-picks : (headers : Headers) (chosen : Option Chosen) (came : List ℕ) (stated at : ℕ) → rules.choice headers ≡ Ok chosen → Picks (detached_payload rules headers chosen came stated at)
-  detached_payload-picks headers chosen came stated at is place bytes = choose-picks (nat_lt (length came) stated) (awaits (headers_so_far headers came) (stated - length came) at) (auth_head rules headers chosen (take stated came) place bytes) (λ whole e. absurd cc)
-      (auth_head-picks headers chosen (take stated came) is place bytes)
+  detached_payload-picks : (headers : Headers) (chosen : Option Chosen) (came : List ℕ) (detached_length at : ℕ) → rules.choice headers ≡ Ok chosen → Picks (detached_payload rules headers chosen came detached_length at)
+  detached_payload-picks headers chosen came detached_length at is place bytes = choose-picks (nat_lt (length came) detached_length) (awaits (headers_so_far headers came) (detached_length - length came) at) (auth_head rules headers chosen (take detached_length came) place bytes) (λ whole e. absurd cc)
+      (auth_head-picks headers chosen (take detached_length came) is place bytes)
 
   past_payload_head-picks : (source : Source) (headers : Headers) (chosen : Option Chosen) → rules.choice headers ≡ Ok chosen → (at : ℕ) (head : Head) → Picks (past_payload_head_from source rules headers chosen at head)
   past_payload_head-picks attached headers chosen is at head = unless_fault-picks (headers_so_far headers []) at (payload_head_fault rules head) (payload rules headers chosen head.arg) (payload-picks headers chosen head.arg is)
-  past_payload_head-picks (detached came stated) headers chosen is at head = unless_fault-picks (headers_so_far headers []) at (nil_fault_within rules.payload_limit stated head) (detached_payload rules headers chosen came stated at) (detached_payload-picks headers chosen came stated at is)
+  past_payload_head-picks (detached came detached_length) headers chosen is at head = unless_fault-picks (headers_so_far headers []) at (nil_fault_within rules.payload_limit detached_length head) (detached_payload rules headers chosen came detached_length at) (detached_payload-picks headers chosen came detached_length at is)
 
   payload_head-picks : (headers : Headers) (chosen : Option Chosen) → rules.choice headers ≡ Ok chosen → Picks (payload_head rules headers chosen)
   payload_head-picks headers chosen is = with_head-picks (headers_so_far headers []) (past_payload_head rules headers chosen) (λ at head. past_payload_head-picks rules.source headers chosen is at head)

@@ -76,7 +76,7 @@ first_with_verdict : (is_ended : Bool) (verdict : Verdict) → verdict_in (first
 first_with_verdict true verdict one = cc
 first_with_verdict false verdict one = absurd cc
 
-nothing_given : (stated : Option ℕ) → with_came [] (source_with [] stated) ≡ source_with [] stated
+nothing_given : (detached_length : Option ℕ) → with_came [] (source_with [] detached_length) ≡ source_with [] detached_length
 nothing_given None = refl
 nothing_given (Some n) = refl
 
@@ -84,7 +84,7 @@ nothing_given (Some n) = refl
 pub begins : {H D : ℕ} {S : Type 0} {K : _} (task : Task) (v : Verifier H D S K) → task_of v ≡ task → IsUntouched v.reader → v.reader.phase ≡ phases.FirstHead → v.taken ≡ 0 → v.stopped ≡ false → HasTaken task [] [] v
 begins {H} {D} {S} {K} task v is untouched first none going =
     let from : Source → Task = λ source. record { setting = record (task_of v).setting { source = source }; inspects = v.inspecting } in
-    let nothing : given_to [] (task_of v) ≡ task_of v = ap from (nothing_given v.stated) in
+    let nothing : given_to [] (task_of v) ≡ task_of v = ap from (nothing_given v.detached_length) in
     let so : (more : List ℕ) → SoFar (given_to more (task_of v)) [] [] v.reader = λ more. starts_message (given_to more (task_of v)) v.reader untouched first refl in
     subst (λ (t : Task). HasTaken t [] [] v) is (record {
       made_for = sym nothing;

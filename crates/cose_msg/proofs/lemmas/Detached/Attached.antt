@@ -47,7 +47,7 @@ module _ (rules : Rules) (headers : Headers) (chosen : Option Chosen) where
 
   past_payload_head-never : (source : Source) → is_detached_from source ≡ false → (at : ℕ) (head : Head) → Never (past_payload_head_from source rules headers chosen at head)
   past_payload_head-never attached e at head = unless_fault-goes AwaitsNothing cuts stops (headers_so_far headers []) at (payload_head_fault rules head) (payload rules headers chosen head.arg) (payload rules headers chosen head.arg) (payload-never head.arg)
-  past_payload_head-never (detached came stated) e at head = absurd cc
+  past_payload_head-never (detached came detached_length) e at head = absurd cc
 
 pub awaits_nothing : AttachedAwaitsNothing
 unfolding message
@@ -71,13 +71,13 @@ either false answer = λ e. cc
 of_reading : (reading : Reading) → reading.payload_wanted ≡ 0 → status_of_reading reading ≢ PayloadNext
 of_reading reading none = rw none (either reading.settled reading.answer)
 
-by_length : (stated : Option ℕ) (source : Source) → source_with [] stated ≡ with_came [] source → is_detached_from (source_with [] stated) ≡ false → is_detached_from source ≡ false
-by_length stated attached e is = refl
+by_length : (detached_length : Option ℕ) (source : Source) → source_with [] detached_length ≡ with_came [] source → is_detached_from (source_with [] detached_length) ≡ false → is_detached_from source ≡ false
+by_length detached_length attached e is = refl
 by_length None (detached came n) e is = absurd cc
-by_length (Some stated) (detached came n) e is = absurd cc
+by_length (Some detached_length) (detached came n) e is = absurd cc
 
 is_of_attached : {H D : ℕ} {S : Type 0} {K : _} {task : Task} {s B : List ℕ} {v : Verifier H D S K} → HasTaken task s B v → is_detached v ≡ false → is_detached_from task.setting.source ≡ false
-is_of_attached {task = task} {v = v} h is = by_length v.stated task.setting.source (ap (λ (t : Task). t.setting.source) h.made_for) is
+is_of_attached {task = task} {v = v} h is = by_length v.detached_length task.setting.source (ap (λ (t : Task). t.setting.source) h.made_for) is
 
 -- The status of a verifier that wasn't made for a detached payload.
 pub never_next : {H D : ℕ} {S : Type 0} {K : _} {task : Task} {s B : List ℕ} {v : Verifier H D S K} → HasTaken task s B v → is_detached v ≡ false → status_of_reading (message (rules_of H D task) s) ≢ PayloadNext

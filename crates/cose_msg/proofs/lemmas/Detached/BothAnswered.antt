@@ -26,11 +26,11 @@ use Rattle.cose_msg.proofs.lemmas.Feeding.Statuses.{open_as}
 
 -- ---- a verifier for a detached payload
 
-by_length : (stated : Option ℕ) (source : Source) → source_with [] stated ≡ with_came [] source → is_detached_from (source_with [] stated) ≡ true → is_detached_from source ≡ true
-by_length stated source e is = sym (detached_whatever [] source) ∙ sym (ap is_detached_from e) ∙ is
+by_length : (detached_length : Option ℕ) (source : Source) → source_with [] detached_length ≡ with_came [] source → is_detached_from (source_with [] detached_length) ≡ true → is_detached_from source ≡ true
+by_length detached_length source e is = sym (detached_whatever [] source) ∙ sym (ap is_detached_from e) ∙ is
 
 pub is_of_detached : {H D : ℕ} {S : Type 0} {K : _} {task : Task} {s B : List ℕ} {v : Verifier H D S K} → HasTaken task s B v → is_detached v ≡ true → is_detached_from task.setting.source ≡ true
-is_of_detached {task = task} {v = v} h is = by_length v.stated task.setting.source (ap (λ (t : Task). t.setting.source) h.made_for) is
+is_of_detached {task = task} {v = v} h is = by_length v.detached_length task.setting.source (ap (λ (t : Task). t.setting.source) h.made_for) is
 
 -- Where a verdict is there, no byte of the payload is wanted.
 pub done_wants_none : (H D : ℕ) (task : Task) (bytes : List ℕ) → IsDone (message (rules_of H D task) (bytes ++ [])) → (message (rules_of H D task) bytes).payload_wanted ≡ 0

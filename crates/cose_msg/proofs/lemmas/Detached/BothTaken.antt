@@ -253,7 +253,7 @@ module _ {H D : ℕ} {S : Type 0} {K : _} (stays : OpenStays) {task : Task} {s B
 
 pub detached_whatever : (came : List ℕ) (source : Source) → is_detached_from (with_came came source) ≡ is_detached_from source
 detached_whatever came attached = refl
-detached_whatever came (detached before stated) = refl
+detached_whatever came (detached before detached_length) = refl
 
 pub detached_given : (came : List ℕ) (task : Task) → is_detached_from task.setting.source ≡ true → is_detached_from (given_to came task).setting.source ≡ true
 detached_given came task is = detached_whatever came task.setting.source ∙ is

@@ -34,14 +34,14 @@ wanted_is_stated {H} {D} {task} {B} {n} {v} {reading} h some = elim (awaits_or_n
   | inl none ↦ absurd (omega (arith, some, none))
   | inr w ↦ (
       let held : HoldsIn task h.known h.so_far n v (phases.Detached w.0) = subst (λ phase. HoldsIn task h.known h.so_far n v phase) w.1 h.holds in
-      let stated : length h.known.payload + w.0.left ≡ stated_of task.setting.source = held.1 ∙ sym (ap stated_of held.5.1) in
+      let detached_length : length h.known.payload + w.0.left ≡ stated_of task.setting.source = held.1 ∙ sym (ap stated_of held.5.1) in
       let so_far : length h.known.payload ≡ length B = ap length h.payload_known in
-      omega (arith, stated, so_far, ap payload_want_of w.1))
+      omega (arith, detached_length, so_far, ap payload_want_of w.1))
 ]
 
 stated_whatever : (came : List ℕ) (source : Source) → stated_of (with_came came source) ≡ stated_of source
 stated_whatever came attached = refl
-stated_whatever came (detached before stated) = refl
+stated_whatever came (detached before detached_length) = refl
 
 pub stated_given : (task : Task) (came : List ℕ) → stated_of (given_to came task).setting.source ≡ stated_of task.setting.source
 stated_given task came = stated_whatever came task.setting.source

@@ -31,22 +31,22 @@ module _ (came more : List ℕ) (rules : Rules) (source other : Source) where
   abbrev after : Rules
   after = record rules { source = other }
 
-  module _ (headers : Headers) (chosen : Option Chosen) (stated at place : ℕ) (bytes : List ℕ) where
-    after_nil : (missing : Bool) → nat_lt (length came) stated ≡ missing →
-        Keeps (cond missing (awaits (headers_so_far headers came) (stated - length came) at) (auth_head before headers chosen (take stated came) place bytes)) (detached_payload after headers chosen (came ++ more) stated at place bytes)
-    after_nil true short = (λ none. absurd (omega (arith, ltb-true (length came) stated short, none)), λ unsettled. absurd cc)
+  module _ (headers : Headers) (chosen : Option Chosen) (detached_length at place : ℕ) (bytes : List ℕ) where
+    after_nil : (missing : Bool) → nat_lt (length came) detached_length ≡ missing →
+        Keeps (cond missing (awaits (headers_so_far headers came) (detached_length - length came) at) (auth_head before headers chosen (take detached_length came) place bytes)) (detached_payload after headers chosen (came ++ more) detached_length at place bytes)
+    after_nil true short = (λ none. absurd (omega (arith, ltb-true (length came) detached_length short, none)), λ unsettled. absurd cc)
     after_nil false whole =
-        let le : stated ≤ length came = ltb-false (length came) stated whole in
-        let there : nat_lt (length (came ++ more)) stated ≡ false = le-ltb _ _ (omega (arith, le, length-append came more)) in
-        let same : detached_payload after headers chosen (came ++ more) stated at place bytes ≡ auth_head before headers chosen (take stated came) place bytes = rw (there, take-append-le stated came more le) refl in
+        let le : detached_length ≤ length came = ltb-false (length came) detached_length whole in
+        let there : nat_lt (length (came ++ more)) detached_length ≡ false = le-ltb _ _ (omega (arith, le, length-append came more)) in
+        let same : detached_payload after headers chosen (came ++ more) detached_length at place bytes ≡ auth_head before headers chosen (take detached_length came) place bytes = rw (there, take-append-le detached_length came more le) refl in
         (λ none. same, λ unsettled. same)
 
   after_head : (payload : Source) (headers : Headers) (chosen : Option Chosen) (at : ℕ) (head : Head) →
       Goes Keeps cuts stops (past_payload_head_from (with_came came payload) before headers chosen at head) (past_payload_head_from (with_came (came ++ more) payload) after headers chosen at head)
   after_head attached headers chosen at head = λ place bytes. (λ none. refl, λ unsettled. refl)
-  after_head (detached earlier stated) headers chosen at head = unless_fault-goes Keeps cuts stops (headers_so_far headers []) at (nil_fault_within rules.payload_limit stated head)
-      (detached_payload before headers chosen came stated at) (detached_payload after headers chosen (came ++ more) stated at)
-      (λ place bytes. after_nil headers chosen stated at place bytes (nat_lt (length came) stated) refl)
+  after_head (detached earlier detached_length) headers chosen at head = unless_fault-goes Keeps cuts stops (headers_so_far headers []) at (nil_fault_within rules.payload_limit detached_length head)
+      (detached_payload before headers chosen came detached_length at) (detached_payload after headers chosen (came ++ more) detached_length at)
+      (λ place bytes. after_nil headers chosen detached_length at place bytes (nat_lt (length came) detached_length) refl)
 
 stays : (rules : Rules) (came more bytes : List ℕ) → Keeps (message (receiving came rules) bytes) (message (receiving (came ++ more) rules) bytes)
 unfolding message

@@ -21,7 +21,7 @@ given_attached task came is =
 -- The last bytes count.
 again : (came before : List ℕ) (source : Source) → with_came came (with_came before source) ≡ with_came came source
 again came before attached = refl
-again came before (detached other stated) = refl
+again came before (detached other detached_length) = refl
 
 pub given_again : (task : Task) (came before : List ℕ) → given_to came (given_to before task) ≡ given_to came task
 given_again task came before =
@@ -29,14 +29,14 @@ given_again task came before =
     ap from (again came before task.setting.source)
 
 -- The length that is stated of a payload of which nothing has come is that of the same payload when some of it has.
-stated_as : (stated : Option ℕ) (source : Source) → source_with [] stated ≡ with_came [] source → IsStated stated source
+stated_as : (detached_length : Option ℕ) (source : Source) → source_with [] detached_length ≡ with_came [] source → IsStated detached_length source
 stated_as None attached e = refl
 stated_as None (detached came n) e = absurd cc
 stated_as (Some n) attached e = absurd cc
 stated_as (Some n) (detached came m) e = let same : n ≡ m = cc in ap (detached came) same
 
-pub stated_for : (stated : Option ℕ) (task other : Task) → source_with [] stated ≡ with_came [] task.setting.source → given_to [] other ≡ given_to [] task → IsStated stated other.setting.source
-stated_for stated task other e same = stated_as stated other.setting.source (e ∙ sym (ap (λ (t : Task). t.setting.source) same))
+pub stated_for : (detached_length : Option ℕ) (task other : Task) → source_with [] detached_length ≡ with_came [] task.setting.source → given_to [] other ≡ given_to [] task → IsStated detached_length other.setting.source
+stated_for detached_length task other e same = stated_as detached_length other.setting.source (e ∙ sym (ap (λ (t : Task). t.setting.source) same))
 
 -- After a piece of the message what has come of a detached payload is the same, and whatever comes of it then.
 grown_outside : (phase : Phase) (B piece : List ℕ) → in_payload phase ≡ false → grown phase B piece ≡ B

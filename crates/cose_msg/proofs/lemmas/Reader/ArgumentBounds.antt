@@ -31,8 +31,8 @@ nil_cases true true over bytes a b c n h e = absurd cc
 nil_cases true false true bytes a b c n h e = absurd cc
 nil_cases true false false bytes a b c n h e = h refl
 
-pub stated_fits : (limit stated : ℕ) (head : Head) → nil_fault_within limit stated head ≡ None → stated < 2 ^ 56
-stated_fits limit stated head e = nil_cases (is_nil head) (nat_le (2 ^ 56) stated) (nat_lt limit stated) (is_bytes_head head) _ _ _ stated (λ short. omega (arith, leb-false (2 ^ 56) stated short)) e
+pub stated_fits : (limit detached_length : ℕ) (head : Head) → nil_fault_within limit detached_length head ≡ None → detached_length < 2 ^ 56
+stated_fits limit detached_length head e = nil_cases (is_nil head) (nat_le (2 ^ 56) detached_length) (nat_lt limit detached_length) (is_bytes_head head) _ _ _ detached_length (λ short. omega (arith, leb-false (2 ^ 56) detached_length short)) e
 
 auth_cases : (bytes same : Bool) (a b : Reason) → cond bytes (cond same None (Some a)) (Some b) ≡ None → same ≡ true
 auth_cases false same a b e = absurd cc

@@ -69,9 +69,9 @@ so_far_payload so_far other B same is = sym (ap (λ (t : Findings). t.payload) s
 
 -- A task that is a reader's, with these keys, this length of a detached payload, and for this purpose, before anything of the
 -- payload has come.
-pub whole_task : (task : Task) (keys : List KeyValue) (terms : Terms) (inspects : Bool) (stated : Option ℕ) (elsewhere : Bool) → keys ≡ task.setting.keys → inspects ≡ task.inspects → source_with [] stated ≡ with_came [] task.setting.source → elsewhere ≡ task.setting.elsewhere
-    → record { setting = setting_with task.setting.keys task.setting.source task.setting.elsewhere terms; inspects = task.inspects } ≡ task → record { setting = setting_with keys (source_with [] stated) elsewhere terms; inspects = inspects } ≡ given_to [] task
-whole_task task keys terms inspects stated elsewhere same purpose source away e = rw (same, purpose, source, away) (ap (given_to []) e)
+pub whole_task : (task : Task) (keys : List KeyValue) (terms : Terms) (inspects : Bool) (detached_length : Option ℕ) (elsewhere : Bool) → keys ≡ task.setting.keys → inspects ≡ task.inspects → source_with [] detached_length ≡ with_came [] task.setting.source → elsewhere ≡ task.setting.elsewhere
+    → record { setting = setting_with task.setting.keys task.setting.source task.setting.elsewhere terms; inspects = task.inspects } ≡ task → record { setting = setting_with keys (source_with [] detached_length) elsewhere terms; inspects = inspects } ≡ given_to [] task
+whole_task task keys terms inspects detached_length elsewhere same purpose source away e = rw (same, purpose, source, away) (ap (given_to []) e)
 
 -- A piece was taken whole.
 pub took_piece : {H D : ℕ} {task : Task} (v : Reader H D) (s piece : List ℕ) (grows : List ℕ → List ℕ) (used : ℕ) (reading : List ℕ → Reading) → used ≡ length piece

@@ -68,11 +68,11 @@ ItemWaits {H} {D} v = HasPut H v.unprotected.items v.walker → (more : List ℕ
     read D (left_of (v.unprotected.items ++ more) H 0) ≡ refuse Truncated (length (v.unprotected.items ++ more))
 
 -- After the nil of a detached payload, of which bytes are missing.
-pub nil_awaits : (source : Source) (rules : Rules) (headers : Headers) (chosen : Option Chosen) (B : List ℕ) (stated left at after : ℕ) (z : List ℕ) → source ≡ detached B stated → length B + left ≡ stated → 0 < left
+pub nil_awaits : (source : Source) (rules : Rules) (headers : Headers) (chosen : Option Chosen) (B : List ℕ) (detached_length left at after : ℕ) (z : List ℕ) → source ≡ detached B detached_length → length B + left ≡ detached_length → 0 < left
     → past_nil source rules headers chosen at after z ≡ awaits (headers_so_far headers B) left at
-nil_awaits source rules headers chosen B stated left at after z is count some =
-    let short : nat_lt (length B) stated ≡ true = lt-ltb (length B) stated (omega (arith, count, some)) in
-    let missing : stated - length B ≡ left = omega (arith, count) in
+nil_awaits source rules headers chosen B detached_length left at after z is count some =
+    let short : nat_lt (length B) detached_length ≡ true = lt-ltb (length B) detached_length (omega (arith, count, some)) in
+    let missing : detached_length - length B ≡ left = omega (arith, count) in
     rw (is, short, missing) refl
 
 module _ {H D : ℕ} (task : Task) (known : Known) (so_far : Findings) (n : ℕ) (v : Reader H D) (waits : ItemWaits v) where

@@ -81,10 +81,10 @@ module _ (rules : Rules) (reads : Reads rules) (headers : Headers) (chosen : Opt
   payload-gives n = with_string-gives (IsUnder n) (headers_so_far headers) n (past_payload rules headers chosen)
       (λ at B count place bytes whole e. with_length B n count whole (auth_head-gives B place bytes whole e))
 
-  pub detached_payload-gives : (came : List ℕ) (stated at : ℕ) → GivesAlways (IsUnder stated) (detached_payload rules headers chosen came stated at)
-  detached_payload-gives came stated at place bytes =
-      either_gives (IsUnder stated) (nat_lt (length came) stated) (awaits (headers_so_far headers came) (stated - length came) at) (auth_head rules headers chosen (take stated came) place bytes)
+  pub detached_payload-gives : (came : List ℕ) (detached_length at : ℕ) → GivesAlways (IsUnder detached_length) (detached_payload rules headers chosen came detached_length at)
+  detached_payload-gives came detached_length at place bytes =
+      either_gives (IsUnder detached_length) (nat_lt (length came) detached_length) (awaits (headers_so_far headers came) (detached_length - length came) at) (auth_head rules headers chosen (take detached_length came) place bytes)
       (λ whole e. absurd cc)
       (λ there whole e.
-      let enough : stated ≤ length came = ltb-false (length came) stated there in
-      with_length (take stated came) stated (length-take-le stated came enough) whole (auth_head-gives (take stated came) place bytes whole e))
+      let enough : detached_length ≤ length came = ltb-false (length came) detached_length there in
+      with_length (take detached_length came) detached_length (length-take-le detached_length came enough) whole (auth_head-gives (take detached_length came) place bytes whole e))

@@ -67,9 +67,9 @@ payload_definite rules head =
     either (is_bytes_head head) (cond (is_too_long rules.payload_limit head.arg) (Some PayloadTooLong) None) (cond (is_nil head) (Some Detached) (Some WrongType)) (either (is_too_long rules.payload_limit head.arg) (Some PayloadTooLong) None (λ e. absurd cc) tt)
     (either (is_nil head) (Some Detached) (Some WrongType) (λ e. absurd cc) (λ e. absurd cc))
 
-nil_definite : (limit stated : ℕ) (head : Head) → Definite (nil_fault_within limit stated head)
-nil_definite limit stated head =
-    either (is_nil head) (cond (is_too_long limit stated) (Some PayloadTooLong) None) (cond (is_bytes_head head) (Some Attached) (Some WrongType)) (either (is_too_long limit stated) (Some PayloadTooLong) None (λ e. absurd cc) tt)
+nil_definite : (limit detached_length : ℕ) (head : Head) → Definite (nil_fault_within limit detached_length head)
+nil_definite limit detached_length head =
+    either (is_nil head) (cond (is_too_long limit detached_length) (Some PayloadTooLong) None) (cond (is_bytes_head head) (Some Attached) (Some WrongType)) (either (is_too_long limit detached_length) (Some PayloadTooLong) None (λ e. absurd cc) tt)
     (either (is_bytes_head head) (Some Attached) (Some WrongType) (λ e. absurd cc) (λ e. absurd cc))
 
 protected_definite : (rules : Rules) (head : Head) → Definite (protected_head_fault rules head)
@@ -109,19 +109,19 @@ module _ (laws : HeadLaws) (maps : MapLaws) (rules : Rules) (fair : AreFair rule
   payload-definite : (headers : Headers) (chosen : Option Chosen) (n from : ℕ) → DefiniteFrom from (payload rules headers chosen n)
   payload-definite headers chosen n from = with_string-definite (headers_so_far headers) n (past_payload rules headers chosen) from (λ at B le. auth_head-definite headers chosen B (at + length B))
 
-  detached_payload-definite : (headers : Headers) (chosen : Option Chosen) (came : List ℕ) (stated at : ℕ) → DefiniteFrom (at + 1) (detached_payload rules headers chosen came stated at)
-  detached_payload-definite headers chosen came stated at place bytes le =
-      elim (cases_lt (length came) stated) [
-        | inl short ↦ rw (lt-ltb (length came) stated short) (awaits-definite (headers_so_far headers came) (stated - length came) at (place + length bytes) (omega (arith, short)) (omega (arith, le)))
-        | inr there ↦ rw (le-ltb (length came) stated there) (auth_head-definite headers chosen (take stated came) (at + 1) place bytes le)
+  detached_payload-definite : (headers : Headers) (chosen : Option Chosen) (came : List ℕ) (detached_length at : ℕ) → DefiniteFrom (at + 1) (detached_payload rules headers chosen came detached_length at)
+  detached_payload-definite headers chosen came detached_length at place bytes le =
+      elim (cases_lt (length came) detached_length) [
+        | inl short ↦ rw (lt-ltb (length came) detached_length short) (awaits-definite (headers_so_far headers came) (detached_length - length came) at (place + length bytes) (omega (arith, short)) (omega (arith, le)))
+        | inr there ↦ rw (le-ltb (length came) detached_length there) (auth_head-definite headers chosen (take detached_length came) (at + 1) place bytes le)
       ]
 
   past_payload_head-definite : (source : Source) (headers : Headers) (chosen : Option Chosen) (at : ℕ) (head : Head) → DefiniteFrom (at + 1) (past_payload_head_from source rules headers chosen at head)
   past_payload_head-definite attached headers chosen at head =
       unless_fault-definite (headers_so_far headers []) at (at + 1) (payload_head_fault rules head) (payload rules headers chosen head.arg) (omega arith) (payload_definite rules head) (payload-definite headers chosen head.arg (at + 1))
-  past_payload_head-definite (detached came stated) headers chosen at head =
-      unless_fault-definite (headers_so_far headers []) at (at + 1) (nil_fault_within rules.payload_limit stated head) (detached_payload rules headers chosen came stated at) (omega arith) (nil_definite rules.payload_limit stated head)
-      (detached_payload-definite headers chosen came stated at)
+  past_payload_head-definite (detached came detached_length) headers chosen at head =
+      unless_fault-definite (headers_so_far headers []) at (at + 1) (nil_fault_within rules.payload_limit detached_length head) (detached_payload rules headers chosen came detached_length at) (omega arith) (nil_definite rules.payload_limit detached_length head)
+      (detached_payload-definite headers chosen came detached_length at)
 
   payload_head-definite : (headers : Headers) (chosen : Option Chosen) (from : ℕ) → DefiniteFrom from (payload_head rules headers chosen)
   payload_head-definite headers chosen from = after_head-definite laws (headers_so_far headers []) (past_payload_head rules headers chosen) from (λ at head. past_payload_head-definite rules.source headers chosen at head)

@@ -51,13 +51,13 @@ module _ (change : Answer → Answer) (keeps : (reason : Reason) (place : ℕ) �
     payload-follows : (headers : Headers) (chosen : Option Chosen) (n : ℕ) → Follows (payload rules headers chosen n) (payload changed headers chosen n)
     payload-follows headers chosen n = with_string-goes IsChanged cuts stops (headers_so_far headers) n (past_payload rules headers chosen) (past_payload changed headers chosen) (λ at B. auth_head-follows headers chosen B)
 
-    detached_payload-follows : (headers : Headers) (chosen : Option Chosen) (came : List ℕ) (stated at : ℕ) → Follows (detached_payload rules headers chosen came stated at) (detached_payload changed headers chosen came stated at)
-    detached_payload-follows headers chosen came stated at place bytes = choose-goes IsChanged cuts stops (nat_lt (length came) stated) (awaits (headers_so_far headers came) (stated - length came) at) (auth_head rules headers chosen (take stated came) place bytes) _ _
-        (awaits-follows (headers_so_far headers came) (stated - length came) at) (auth_head-follows headers chosen (take stated came) place bytes)
+    detached_payload-follows : (headers : Headers) (chosen : Option Chosen) (came : List ℕ) (detached_length at : ℕ) → Follows (detached_payload rules headers chosen came detached_length at) (detached_payload changed headers chosen came detached_length at)
+    detached_payload-follows headers chosen came detached_length at place bytes = choose-goes IsChanged cuts stops (nat_lt (length came) detached_length) (awaits (headers_so_far headers came) (detached_length - length came) at) (auth_head rules headers chosen (take detached_length came) place bytes) _ _
+        (awaits-follows (headers_so_far headers came) (detached_length - length came) at) (auth_head-follows headers chosen (take detached_length came) place bytes)
 
     past_payload_head-follows : (source : Source) (headers : Headers) (chosen : Option Chosen) (at : ℕ) (head : Head) → Follows (past_payload_head_from source rules headers chosen at head) (past_payload_head_from source changed headers chosen at head)
     past_payload_head-follows attached headers chosen at head = unless_fault-goes IsChanged cuts stops (headers_so_far headers []) at (payload_head_fault rules head) (payload rules headers chosen head.arg) (payload changed headers chosen head.arg) (payload-follows headers chosen head.arg)
-    past_payload_head-follows (detached came stated) headers chosen at head = unless_fault-goes IsChanged cuts stops (headers_so_far headers []) at (nil_fault_within rules.payload_limit stated head) (detached_payload rules headers chosen came stated at) (detached_payload changed headers chosen came stated at) (detached_payload-follows headers chosen came stated at)
+    past_payload_head-follows (detached came detached_length) headers chosen at head = unless_fault-goes IsChanged cuts stops (headers_so_far headers []) at (nil_fault_within rules.payload_limit detached_length head) (detached_payload rules headers chosen came detached_length at) (detached_payload changed headers chosen came detached_length at) (detached_payload-follows headers chosen came detached_length at)
 
 -- ---- the message
 

@@ -144,16 +144,16 @@ module _ (laws : BoundLaws) (rules : Rules) (most : ℕ) (at_most : AuthIsAtMost
   payload-settles : (headers : Headers) (chosen : Option Chosen) (n : ℕ) → rules.choice headers ≡ Ok chosen → n ≤ payload_at_most rules.payload_limit → Settles (to_payload_of attached) (payload rules headers chosen n)
   payload-settles headers chosen n is le = by_more (n + (9 + most)) (to_payload_of attached) (payload rules headers chosen n) (omega arith) (with_string-settles (headers_so_far headers) n (9 + most) (past_payload rules headers chosen) (λ at B. auth_head-settles headers chosen B is))
 
-  detached_payload-settles : (headers : Headers) (chosen : Option Chosen) (came : List ℕ) (stated at : ℕ) → rules.choice headers ≡ Ok chosen → Settles (0 + (9 + most)) (detached_payload rules headers chosen came stated at)
-  detached_payload-settles headers chosen came stated at is =
-      choose-settles (nat_lt (length came) stated) (λ place bytes. awaits (headers_so_far headers came) (stated - length came) at) (auth_head rules headers chosen (take stated came)) (0 + (9 + most)) (λ place bytes le. refl)
-      (by_more (9 + most) (0 + (9 + most)) (auth_head rules headers chosen (take stated came)) (omega arith) (auth_head-settles headers chosen (take stated came) is))
+  detached_payload-settles : (headers : Headers) (chosen : Option Chosen) (came : List ℕ) (detached_length at : ℕ) → rules.choice headers ≡ Ok chosen → Settles (0 + (9 + most)) (detached_payload rules headers chosen came detached_length at)
+  detached_payload-settles headers chosen came detached_length at is =
+      choose-settles (nat_lt (length came) detached_length) (λ place bytes. awaits (headers_so_far headers came) (detached_length - length came) at) (auth_head rules headers chosen (take detached_length came)) (0 + (9 + most)) (λ place bytes le. refl)
+      (by_more (9 + most) (0 + (9 + most)) (auth_head rules headers chosen (take detached_length came)) (omega arith) (auth_head-settles headers chosen (take detached_length came) is))
 
   past_payload_head-settles : (source : Source) (headers : Headers) (chosen : Option Chosen) → rules.choice headers ≡ Ok chosen → (at : ℕ) (head : Head) → Settles (to_payload_of source) (past_payload_head_from source rules headers chosen at head)
   past_payload_head-settles attached headers chosen is at head = unless_fault-settles (headers_so_far headers []) at (to_payload_of attached) (payload_head_fault rules head) (payload rules headers chosen head.arg)
       (λ e. payload-settles headers chosen head.arg is (short_enough rules.payload_limit head.arg (passes_payload (is_bytes_head head) (is_too_long rules.payload_limit head.arg) (is_nil head) _ _ _ e)))
-  past_payload_head-settles (detached came stated) headers chosen is at head = unless_fault-settles (headers_so_far headers []) at (to_payload_of (detached came stated)) (nil_fault_within rules.payload_limit stated head) (detached_payload rules headers chosen came stated at)
-      (λ e. detached_payload-settles headers chosen came stated at is)
+  past_payload_head-settles (detached came detached_length) headers chosen is at head = unless_fault-settles (headers_so_far headers []) at (to_payload_of (detached came detached_length)) (nil_fault_within rules.payload_limit detached_length head) (detached_payload rules headers chosen came detached_length at)
+      (λ e. detached_payload-settles headers chosen came detached_length at is)
 
   payload_head-settles : (headers : Headers) (chosen : Option Chosen) → rules.choice headers ≡ Ok chosen → Settles (9 + to_payload) (payload_head rules headers chosen)
   payload_head-settles headers chosen is = with_head-settles laws (headers_so_far headers []) to_payload (past_payload_head rules headers chosen) (λ at head. past_payload_head-settles rules.source headers chosen is at head)

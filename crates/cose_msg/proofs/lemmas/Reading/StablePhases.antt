@@ -35,13 +35,13 @@ module _ (laws : HeadLaws) (rules : Rules) where
   payload-stable : (headers : Headers) (chosen : Option Chosen) (n : ℕ) → Stable (payload rules headers chosen n)
   payload-stable headers chosen n = with_string-stable (headers_so_far headers) n (past_payload rules headers chosen) (λ at B. auth_head-stable headers chosen B)
 
-  detached_payload-stable : (headers : Headers) (chosen : Option Chosen) (came : List ℕ) (stated at : ℕ) → Stable (detached_payload rules headers chosen came stated at)
-  detached_payload-stable headers chosen came stated at = either-stable (nat_lt (length came) stated) (λ place bytes. awaits (headers_so_far headers came) (stated - length came) at) (auth_head rules headers chosen (take stated came))
-      (settled-stable (λ place. awaits (headers_so_far headers came) (stated - length came) at) (λ place. refl)) (auth_head-stable headers chosen (take stated came))
+  detached_payload-stable : (headers : Headers) (chosen : Option Chosen) (came : List ℕ) (detached_length at : ℕ) → Stable (detached_payload rules headers chosen came detached_length at)
+  detached_payload-stable headers chosen came detached_length at = either-stable (nat_lt (length came) detached_length) (λ place bytes. awaits (headers_so_far headers came) (detached_length - length came) at) (auth_head rules headers chosen (take detached_length came))
+      (settled-stable (λ place. awaits (headers_so_far headers came) (detached_length - length came) at) (λ place. refl)) (auth_head-stable headers chosen (take detached_length came))
 
   past_payload_head-stable : (source : Source) (headers : Headers) (chosen : Option Chosen) (at : ℕ) (head : Head) → Stable (past_payload_head_from source rules headers chosen at head)
   past_payload_head-stable attached headers chosen at head = unless_fault-stable (headers_so_far headers []) at (payload_head_fault rules head) (payload rules headers chosen head.arg) (payload-stable headers chosen head.arg)
-  past_payload_head-stable (detached came stated) headers chosen at head = unless_fault-stable (headers_so_far headers []) at (nil_fault_within rules.payload_limit stated head) (detached_payload rules headers chosen came stated at) (detached_payload-stable headers chosen came stated at)
+  past_payload_head-stable (detached came detached_length) headers chosen at head = unless_fault-stable (headers_so_far headers []) at (nil_fault_within rules.payload_limit detached_length head) (detached_payload rules headers chosen came detached_length at) (detached_payload-stable headers chosen came detached_length at)
 
   payload_head-stable : (headers : Headers) (chosen : Option Chosen) → Stable (payload_head rules headers chosen)
   payload_head-stable headers chosen = with_head-stable laws (headers_so_far headers []) (past_payload_head rules headers chosen) (λ at head. past_payload_head-stable rules.source headers chosen at head)

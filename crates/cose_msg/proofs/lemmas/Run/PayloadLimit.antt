@@ -39,8 +39,8 @@ nil_cases true true over bytes a b c n limit h e = absurd cc
 nil_cases true false true bytes a b c n limit h e = absurd cc
 nil_cases true false false bytes a b c n limit h e = h refl
 
-stated_is_within : (limit stated : ℕ) (head : Head) → nil_fault_within limit stated head ≡ None → stated ≤ limit
-stated_is_within limit stated head e = nil_cases (is_nil head) (nat_le (2 ^ 56) stated) (nat_lt limit stated) (is_bytes_head head) _ _ _ stated limit (λ short. ltb-false limit stated short) e
+stated_is_within : (limit detached_length : ℕ) (head : Head) → nil_fault_within limit detached_length head ≡ None → detached_length ≤ limit
+stated_is_within limit detached_length head e = nil_cases (is_nil head) (nat_le (2 ^ 56) detached_length) (nat_lt limit detached_length) (is_bytes_head head) _ _ _ detached_length limit (λ short. ltb-false limit detached_length short) e
 
 module _ (rules : Rules) where
   abbrev Small : Findings → Type 0
@@ -61,18 +61,18 @@ module _ (rules : Rules) where
   payload-fits headers chosen n le = with_string-holds Small (headers_so_far headers) n (past_payload rules headers chosen) (λ bytes lt. omega (arith, lt, le))
       (λ at B short. auth_head-fits headers chosen B (omega (arith, short, le)))
 
-  detached_payload-fits : (headers : Headers) (chosen : Option Chosen) (came : List ℕ) (stated at : ℕ) → stated ≤ rules.payload_limit → Fits (detached_payload rules headers chosen came stated at)
-  detached_payload-fits headers chosen came stated at le place bytes =
-      elim (cases_lt (length came) stated) [
-        | inl short ↦ rw (lt-ltb (length came) stated short) (omega (arith, short, le))
-        | inr there ↦ rw (le-ltb (length came) stated there) (auth_head-fits headers chosen (take stated came) (omega (arith, le, length-take-le stated came there)) place bytes)
+  detached_payload-fits : (headers : Headers) (chosen : Option Chosen) (came : List ℕ) (detached_length at : ℕ) → detached_length ≤ rules.payload_limit → Fits (detached_payload rules headers chosen came detached_length at)
+  detached_payload-fits headers chosen came detached_length at le place bytes =
+      elim (cases_lt (length came) detached_length) [
+        | inl short ↦ rw (lt-ltb (length came) detached_length short) (omega (arith, short, le))
+        | inr there ↦ rw (le-ltb (length came) detached_length there) (auth_head-fits headers chosen (take detached_length came) (omega (arith, le, length-take-le detached_length came there)) place bytes)
       ]
 
   past_payload_head-fits : (source : Source) (headers : Headers) (chosen : Option Chosen) (at : ℕ) (head : Head) → Fits (past_payload_head_from source rules headers chosen at head)
   past_payload_head-fits attached headers chosen at head = unless_fault-holds Small (headers_so_far headers []) at (payload_head_fault rules head) (payload rules headers chosen head.arg) (omega arith)
       (λ e. payload-fits headers chosen head.arg (payload_is_within rules.payload_limit head e))
-  past_payload_head-fits (detached came stated) headers chosen at head = unless_fault-holds Small (headers_so_far headers []) at (nil_fault_within rules.payload_limit stated head) (detached_payload rules headers chosen came stated at) (omega arith)
-      (λ e. detached_payload-fits headers chosen came stated at (stated_is_within rules.payload_limit stated head e))
+  past_payload_head-fits (detached came detached_length) headers chosen at head = unless_fault-holds Small (headers_so_far headers []) at (nil_fault_within rules.payload_limit detached_length head) (detached_payload rules headers chosen came detached_length at) (omega arith)
+      (λ e. detached_payload-fits headers chosen came detached_length at (stated_is_within rules.payload_limit detached_length head e))
 
   payload_head-fits : (headers : Headers) (chosen : Option Chosen) → Fits (payload_head rules headers chosen)
   payload_head-fits headers chosen = with_head-holds Small (headers_so_far headers []) (past_payload_head rules headers chosen) (omega arith) (λ at head. past_payload_head-fits rules.source headers chosen at head)

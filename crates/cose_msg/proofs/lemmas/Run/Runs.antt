@@ -333,7 +333,7 @@ asked_for_more asked taken some none (inr late) = late
 
 inside_is_short : (source : Source) (limit : ℕ) → payload_inside source limit ≤ 2 ^ 56 - 1
 inside_is_short attached limit = min-le_right limit (2 ^ 56 - 1)
-inside_is_short (apart came stated) limit = omega arith
+inside_is_short (apart came detached_length) limit = omega arith
 
 within_limit : (room : ℕ) (source : Source) (limit n : ℕ) → room ≤ 65535 → 2 ^ 57 ≤ n → (2 * room + 186 + payload_inside source limit ≤ n) × (2 * room + 65589 + payload_inside source limit ≤ n)
 within_limit room source limit n le late = let short : payload_inside source limit ≤ 2 ^ 56 - 1 = inside_is_short source limit in (omega arith, omega arith)

@@ -67,11 +67,11 @@ module _ (laws : SpellingLaws) (rules : Rules) where
 
   payload_read_from : (source : Source) (headers : Headers) (chosen : Option Chosen) (payload : List ℕ) (place : ℕ) (string more : List ℕ) → Spells string (payload_element source payload) → HasCome source payload → is_too_long rules.payload_limit (length payload) ≡ false
       → with_head (headers_so_far headers []) (past_payload_head_from source rules headers chosen) place (string ++ more) ≡ auth_head rules headers chosen payload (place + length string) more
-  payload_read_from (detached came stated) headers chosen payload place string more spelled come fits =
-      let long : length payload ≡ stated = ap length come.1 ∙ length-take-le stated came come.0 in
-      let short : is_too_long rules.payload_limit stated ≡ false = ap (is_too_long rules.payload_limit) (sym long) ∙ fits in
-      nil_read laws (headers_so_far headers []) (past_payload_head_from (detached came stated) rules headers chosen) place string more spelled
-      ∙ rw (short, le-ltb (length came) stated come.0, ← come.1) refl
+  payload_read_from (detached came detached_length) headers chosen payload place string more spelled come fits =
+      let long : length payload ≡ detached_length = ap length come.1 ∙ length-take-le detached_length came come.0 in
+      let short : is_too_long rules.payload_limit detached_length ≡ false = ap (is_too_long rules.payload_limit) (sym long) ∙ fits in
+      nil_read laws (headers_so_far headers []) (past_payload_head_from (detached came detached_length) rules headers chosen) place string more spelled
+      ∙ rw (short, le-ltb (length came) detached_length come.0, ← come.1) refl
   payload_read_from attached headers chosen payload place string more spelled come fits =
       byte_string_read laws (headers_so_far headers []) (payload_head_fault rules) (λ at bytes. headers_so_far headers bytes) (λ at. past_payload rules headers chosen) place string payload more spelled (λ width. rw fits refl)
 

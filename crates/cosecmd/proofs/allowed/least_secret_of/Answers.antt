@@ -1,7 +1,7 @@
 use Rattle.std.proofs.Common.{◌∙◌, Option, ap, codes, ℕ}
 use Rattle.std.specs.Prelude.{unwrap_or}
 use Rattle.std.specs.Str.Parse.{ExplainsUnsignedError, HasUnsignedDigitsIfOk, ParsesUnsigned}
-use Rattle.cosecmd.proofs.RequiredOptions.{number_tried}
+use Rattle.cosecmd.proofs.lemmas.Arguments.RequiredOptions.{number_tried}
 use Rattle.cosecmd.proofs.allowed.least_secret_of.Goals as goal
 
 pub returns-in-Ok : goal.returns-in-Ok

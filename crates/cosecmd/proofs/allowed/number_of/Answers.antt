@@ -2,7 +2,7 @@ use Rattle.std.proofs.Common.{◌≡◌, ◌∙◌, SFits, ap, of_z, rules, sym,
 use Rattle.std.specs.Int.{w128}
 use Rattle.std.proofs.lemmas.Int.{to_z-of_z}
 use Rattle.cosecmd.specs.Allowed.{number_known}
-use Rattle.cosecmd.proofs.AllowedKeys.{nothing_parsed, number_parsed}
+use Rattle.cosecmd.proofs.lemmas.Keys.AllowedKeys.{nothing_parsed, number_parsed}
 use Rattle.cosecmd.proofs.allowed.number_of.Goals as goal
 
 pub returns-in-Ok : goal.returns-in-Ok

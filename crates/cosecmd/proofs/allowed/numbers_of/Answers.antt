@@ -3,7 +3,7 @@ use Rattle.std.specs.Int.{w128}
 use Rattle.std.proofs.lemmas.Int.{to_z-of_z}
 use Rattle.std.proofs.lemmas.List.{at_drop_more}
 use Rattle.cosecmd.specs.Allowed.{algorithm_written, algorithms_written}
-use Rattle.cosecmd.proofs.AllowedKeys.{one_more}
+use Rattle.cosecmd.proofs.lemmas.Keys.AllowedKeys.{one_more}
 use Rattle.cosecmd.proofs.allowed.numbers_of.Goals as goal
 
 pub words-preserved : goal.words-preserved

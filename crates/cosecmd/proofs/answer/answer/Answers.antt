@@ -1,12 +1,12 @@
 use Rattle.std.proofs.Common.{None, Some, ap, refl, sym, ◌∙◌}
 use Rattle.cosecmd.specs.PayloadTo.{payload_under}
 use Rattle.cosecmd.specs.Under.{Under}
-use Rattle.cosecmd.proofs.Asked.{cwt_words, ends_with, fails_with, keys_words, make_words, message_request_words, payload_of_request, show_words}
-use Rattle.cosecmd.proofs.AskedMaking.{made_words}
-use Rattle.cosecmd.proofs.AskedSequences.{fails_as, message_sequence_words, token_sequence_words}
-use Rattle.cosecmd.proofs.KeptRequests.{kept_checks, kept_in_message, none_kept, none_named, not_so, settles_name, some_named}
-use Rattle.cosecmd.proofs.MakeStops.{stops_same}
-use Rattle.cosecmd.proofs.Replies.{ends_so, is_fault}
+use Rattle.cosecmd.proofs.lemmas.Arguments.Asked.{cwt_words, ends_with, fails_with, keys_words, make_words, message_request_words, payload_of_request, show_words}
+use Rattle.cosecmd.proofs.lemmas.Arguments.AskedMaking.{made_words}
+use Rattle.cosecmd.proofs.lemmas.Arguments.AskedSequences.{fails_as, message_sequence_words, token_sequence_words}
+use Rattle.cosecmd.proofs.lemmas.Arguments.KeptRequests.{kept_checks, kept_in_message, none_kept, none_named, not_so, settles_name, some_named}
+use Rattle.cosecmd.proofs.lemmas.Making.MakeStops.{stops_same}
+use Rattle.cosecmd.proofs.lemmas.Messages.Replies.{ends_so, is_fault}
 use Rattle.cosecmd.proofs.answer.answer.Goals as goal
 
 pub returns-in-Show-clause-printed : goal.returns-in-Show-clause-printed

@@ -1,5 +1,5 @@
 use Rattle.std.proofs.Common.{sym, ◌∙◌}
-use Rattle.cosecmd.proofs.Replies.{ends_so, is_fault}
+use Rattle.cosecmd.proofs.lemmas.Messages.Replies.{ends_so, is_fault}
 use Rattle.cosecmd.proofs.answer.end_with.Goals as goal
 
 pub returns-clause-printed : goal.returns-clause-printed

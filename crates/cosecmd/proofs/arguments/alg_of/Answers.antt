@@ -3,7 +3,7 @@ use Rattle.std.specs.Prelude.{pos}
 use Rattle.std.specs.Str.Parse.{ExplainsUnsignedError, HasUnsignedDigitsIfOk, ParsesUnsigned}
 use Rattle.cose_head.specs.Algorithm.{algorithm_numbered}
 use Rattle.cosecmd.specs.Options.{options_of}
-use Rattle.cosecmd.proofs.Options.{algorithm_found, number_found}
+use Rattle.cosecmd.proofs.lemmas.Arguments.Options.{algorithm_found, number_found}
 use Rattle.cosecmd.proofs.arguments.alg_of.Goals as goal
 
 pub returns-in-Some-from_number : goal.returns-in-Some-from_number

@@ -1,7 +1,7 @@
 use Rattle.std.proofs.Common.{◌∙◌, ap}
 use Rattle.std.proofs.lemmas.Result.{IfOk-weaker}
 use Rattle.cosecmd.specs.Options.{bytes_or_none, options_of}
-use Rattle.cosecmd.proofs.Options.{given, left_out, no_bytes}
+use Rattle.cosecmd.proofs.lemmas.Arguments.Options.{given, left_out, no_bytes}
 use Rattle.cosecmd.proofs.arguments.bytes_of.Goals as goal
 
 pub returns-in-Some : goal.returns-in-Some

@@ -3,7 +3,7 @@ use Rattle.cosecmd.specs.CommandLine.{tokens_print}
 use Rattle.cosecmd.specs.Options.{flag_in, options_of}
 use Rattle.cosecmd.specs.Printed.{admitted_under}
 use Rattle.cosecmd.specs.Sequence.{admitted_sequence}
-use Rattle.cosecmd.proofs.CommandLines.{cwt_asks}
+use Rattle.cosecmd.proofs.lemmas.Arguments.CommandLines.{cwt_asks}
 use Rattle.cosecmd.proofs.arguments.cwt_request.Goals as goal
 
 pub returns-then-flag_of-clause-asks : goal.returns-then-flag_of-clause-asks

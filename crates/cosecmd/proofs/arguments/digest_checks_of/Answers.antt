@@ -1,6 +1,6 @@
 use Rattle.cosecmd.specs.Allowed.{allowed_value}
 use Rattle.cosecmd.specs.Options.{options_of}
-use Rattle.cosecmd.proofs.ChecksAsked.{digest_checks_said}
+use Rattle.cosecmd.proofs.lemmas.Arguments.ChecksAsked.{digest_checks_said}
 use Rattle.cosecmd.proofs.arguments.digest_checks_of.Goals as goal
 
 pub returns : goal.returns

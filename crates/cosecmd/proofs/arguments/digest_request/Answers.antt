@@ -1,5 +1,5 @@
 use Rattle.cosecmd.specs.Printed.{digested_under}
-use Rattle.cosecmd.proofs.CommandLines.{payload_asks}
+use Rattle.cosecmd.proofs.lemmas.Arguments.CommandLines.{payload_asks}
 use Rattle.cosecmd.proofs.arguments.digest_request.Goals as goal
 
 pub returns-clause-asks : goal.returns-clause-asks

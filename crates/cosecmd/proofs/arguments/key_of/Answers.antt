@@ -1,7 +1,7 @@
 use Rattle.std.proofs.Common.{codes}
 use Rattle.std.proofs.lemmas.Result.{IfOk-weaker}
 use Rattle.cosecmd.specs.Options.{options_of}
-use Rattle.cosecmd.proofs.Options.{given, left_out, of_named_file, of_no_file, where_known}
+use Rattle.cosecmd.proofs.lemmas.Arguments.Options.{given, left_out, of_named_file, of_no_file, where_known}
 use Rattle.cosecmd.proofs.arguments.key_of.Goals as goal
 
 pub returns-in-Some : goal.returns-in-Some

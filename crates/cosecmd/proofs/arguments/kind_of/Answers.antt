@@ -1,6 +1,6 @@
 use Rattle.std.proofs.Common.{◌∙◌, ap, codes}
 use Rattle.cosecmd.specs.Options.{kind_named, options_of}
-use Rattle.cosecmd.proofs.Options.{given_or}
+use Rattle.cosecmd.proofs.lemmas.Arguments.Options.{given_or}
 use Rattle.cosecmd.proofs.arguments.kind_of.Goals as goal
 
 pub returns : goal.returns

@@ -1,6 +1,6 @@
 use Rattle.std.proofs.Common.{codes}
 use Rattle.std.specs.Str.Parse.{ExplainsUnsignedError, HasUnsignedDigitsIfOk, ParsesUnsigned}
-use Rattle.cosecmd.proofs.Options.{number_found}
+use Rattle.cosecmd.proofs.lemmas.Arguments.Options.{number_found}
 use Rattle.cosecmd.proofs.arguments.leeway_of.Goals as goal
 
 pub returns-in-Some : goal.returns-in-Some

@@ -4,7 +4,7 @@ use Rattle.cosecmd.specs.Headers.{labels_in}
 use Rattle.cosecmd.specs.Options.{options_of}
 use Rattle.cosecmd.specs.Printed.{verified_for}
 use Rattle.cosecmd.specs.Under.{under_of}
-use Rattle.cosecmd.proofs.CommandLines.{payload_asks}
+use Rattle.cosecmd.proofs.lemmas.Arguments.CommandLines.{payload_asks}
 use Rattle.cosecmd.proofs.arguments.message_request.Goals as goal
 
 pub returns-clause-asks : goal.returns-clause-asks

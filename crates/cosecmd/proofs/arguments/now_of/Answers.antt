@@ -1,7 +1,7 @@
 use Rattle.std.proofs.Common.{◌∙◌, SFits, Some, ap, codes, rules, sym, w64}
 use Rattle.std.proofs.lemmas.Int.{to_z-of_z}
 use Rattle.std.specs.Str.Parse.{ExplainsSignedError, HasSignedDigitsIfOk, ParsesSigned}
-use Rattle.cosecmd.proofs.Options.{integer_found}
+use Rattle.cosecmd.proofs.lemmas.Arguments.Options.{integer_found}
 use Rattle.cosecmd.proofs.arguments.now_of.Goals as goal
 
 pub returns-in-Some : goal.returns-in-Some

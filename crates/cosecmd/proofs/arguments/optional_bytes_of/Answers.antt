@@ -1,6 +1,6 @@
 use Rattle.std.proofs.Common.{◌∙◌, Some, ap, option_map}
 use Rattle.cosecmd.specs.Options.{bytes_where_given, options_of}
-use Rattle.cosecmd.proofs.Options.{given, left_out}
+use Rattle.cosecmd.proofs.lemmas.Arguments.Options.{given, left_out}
 use Rattle.cosecmd.proofs.arguments.optional_bytes_of.Goals as goal
 
 pub returns-in_ok-decode-in-Some : goal.returns-in_ok-decode-in-Some

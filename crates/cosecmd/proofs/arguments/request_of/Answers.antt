@@ -2,8 +2,8 @@ use Rattle.std.proofs.Common.{◌≡◌, ◌∙◌, None, Some, ap, codes, refl}
 use Rattle.std.proofs.lemmas.Result.{IfOk-weaker}
 use Rattle.cosecmd.specs.CommandLine.{cwt_prints, has_sequence, keys_prints, make_prints}
 use Rattle.cosecmd.specs.Options.{options_of}
-use Rattle.cosecmd.proofs.CommandLines.{checks_met, command_asked, command_met, keys_asks, make_asks, payload_met}
-use Rattle.cosecmd.proofs.KeptRequests.{keeps_none, names_none}
+use Rattle.cosecmd.proofs.lemmas.Arguments.CommandLines.{checks_met, command_asked, command_met, keys_asks, make_asks, payload_met}
+use Rattle.cosecmd.proofs.lemmas.Arguments.KeptRequests.{keeps_none, names_none}
 use Rattle.cosecmd.proofs.arguments.request_of.Goals as goal
 
 pub returns-in-Some-subcommand_matches-2-clause-asks : goal.returns-in-Some-subcommand_matches-2-clause-asks

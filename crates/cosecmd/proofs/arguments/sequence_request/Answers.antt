@@ -1,5 +1,5 @@
 use Rattle.std.proofs.Common.{None, refl}
-use Rattle.cosecmd.proofs.AskedSequences.{sequence_asks}
+use Rattle.cosecmd.proofs.lemmas.Arguments.AskedSequences.{sequence_asks}
 use Rattle.cosecmd.proofs.arguments.sequence_request.Goals as goal
 
 pub returns-clause-asks : goal.returns-clause-asks

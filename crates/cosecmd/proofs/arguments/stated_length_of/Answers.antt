@@ -1,7 +1,7 @@
 use Rattle.std.proofs.Common.{codes}
 use Rattle.std.specs.Str.Parse.{ExplainsUnsignedError, HasUnsignedDigitsIfOk, ParsesUnsigned}
 use Rattle.cosecmd.specs.Options.{options_of}
-use Rattle.cosecmd.proofs.Options.{left_out, no_number, number_found}
+use Rattle.cosecmd.proofs.lemmas.Arguments.Options.{left_out, no_number, number_found}
 use Rattle.cosecmd.proofs.arguments.stated_length_of.Goals as goal
 
 pub returns-in-Some-get_one : goal.returns-in-Some-get_one

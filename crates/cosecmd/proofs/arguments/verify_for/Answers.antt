@@ -2,8 +2,8 @@ use Rattle.std.proofs.Common.{◌≡◌, ◌∙◌, ◌==◌, Bool, false, List,
 use Rattle.std.proofs.lemmas.Result.{IfOk-weaker}
 use Rattle.cosecmd.specs.PayloadTo.{AsksToVerify}
 use Rattle.cosecmd.specs.Under.{under_of}
-use Rattle.cosecmd.proofs.HeaderLabels.{no_labels, some_headed}
-use Rattle.cosecmd.proofs.KeptRequests.{names_none}
+use Rattle.cosecmd.proofs.lemmas.Messages.HeaderLabels.{no_labels, some_headed}
+use Rattle.cosecmd.proofs.lemmas.Arguments.KeptRequests.{names_none}
 use Rattle.cosecmd.proofs.arguments.verify_for.Goals as goal
 
 pub returns-then-is_empty-clause-asks : goal.returns-then-is_empty-clause-asks

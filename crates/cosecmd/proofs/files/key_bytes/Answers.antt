@@ -1,5 +1,5 @@
 use Rattle.std.proofs.Common.{◌<◌, length, rules}
-use Rattle.cosecmd.proofs.KeyFiles.{whole_read}
+use Rattle.cosecmd.proofs.lemmas.Keys.KeyFiles.{whole_read}
 use Rattle.cosecmd.proofs.files.key_bytes.Goals as goal
 
 pub returns-in-Ok-clause-whole : goal.returns-in-Ok-clause-whole

@@ -1,4 +1,4 @@
-use Rattle.cosecmd.proofs.KeyFiles.{keys_read, list_read}
+use Rattle.cosecmd.proofs.lemmas.Keys.KeyFiles.{keys_read, list_read}
 use Rattle.cosecmd.proofs.files.key_set_bytes.Goals as goal
 
 pub returns-in-Ok-clause-keys : goal.returns-in-Ok-clause-keys

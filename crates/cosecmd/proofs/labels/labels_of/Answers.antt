@@ -1,7 +1,7 @@
 use Rattle.std.proofs.Common.{◌∙◌, ap, codes, map, string_bytes, sym}
 use Rattle.std.proofs.lemmas.Result.{IfOk-weaker}
 use Rattle.cosecmd.specs.Headers.{label_named}
-use Rattle.cosecmd.proofs.RequiredOptions.{no_texts, texts_given}
+use Rattle.cosecmd.proofs.lemmas.Arguments.RequiredOptions.{no_texts, texts_given}
 use Rattle.cosecmd.proofs.labels.labels_of.Goals as goal
 
 pub returns-in-Some : goal.returns-in-Some

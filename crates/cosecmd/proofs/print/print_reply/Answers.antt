@@ -1,6 +1,6 @@
 use Rattle.std.proofs.Common.{arith}
 use Rattle.std.proofs.lemmas.Grind.{common_steps}
-use Rattle.cosecmd.proofs.Replies.{line_fails}
+use Rattle.cosecmd.proofs.lemmas.Messages.Replies.{line_fails}
 use Rattle.cosecmd.proofs.print.print_reply.Goals as goal
 
 pub returns-in-Ok-clause-prints : goal.returns-in-Ok-clause-prints

@@ -1,4 +1,4 @@
-use Rattle.cosecmd.proofs.WrittenPieces.{more_written}
+use Rattle.cosecmd.proofs.lemmas.Payloads.WrittenPieces.{more_written}
 use Rattle.cosecmd.proofs.print.write_bytes.Goals as goal
 
 pub bytes-preserved-in-Ok : goal.bytes-preserved-in-Ok

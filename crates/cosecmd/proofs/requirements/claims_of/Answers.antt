@@ -2,7 +2,7 @@ use Rattle.std.proofs.Common.{◌≡◌, ◌∙◌, ◌++◌, ◌∷◌, [], ◌
 use Rattle.std.proofs.lemmas.List.{at_drop_more}
 use Rattle.cose_cwt.specs.Requirements.{claim_named}
 use Rattle.cosecmd.specs.Requirements.{claims_named}
-use Rattle.cosecmd.proofs.RequiredOptions.{one_more_claim}
+use Rattle.cosecmd.proofs.lemmas.Arguments.RequiredOptions.{one_more_claim}
 use Rattle.cosecmd.proofs.requirements.claims_of.Goals as goal
 
 pub names-preserved : goal.names-preserved

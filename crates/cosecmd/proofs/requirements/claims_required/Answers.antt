@@ -1,7 +1,7 @@
 use Rattle.std.proofs.Common.{◌≡◌, ◌∙◌, Some, Bor, ap, codes, map, sym}
 use Rattle.clap.specs.Walk.{Text}
 use Rattle.cosecmd.specs.Requirements.{claims_named}
-use Rattle.cosecmd.proofs.RequiredOptions.{no_texts, texts_given}
+use Rattle.cosecmd.proofs.lemmas.Arguments.RequiredOptions.{no_texts, texts_given}
 use Rattle.cosecmd.proofs.requirements.claims_required.Goals as goal
 
 pub returns-in-Some-2 : goal.returns-in-Some-2

@@ -1,5 +1,5 @@
 use Rattle.std.specs.Str.Parse.{ExplainsUnsignedError, HasUnsignedDigitsIfOk, ParsesUnsigned}
-use Rattle.cosecmd.proofs.RequiredOptions.{number_tried}
+use Rattle.cosecmd.proofs.lemmas.Arguments.RequiredOptions.{number_tried}
 use Rattle.cosecmd.proofs.requirements.number_of.Goals as goal
 
 pub returns-in-Ok : goal.returns-in-Ok

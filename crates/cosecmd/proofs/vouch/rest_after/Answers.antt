@@ -1,6 +1,6 @@
 use Rattle.std.proofs.lemmas.Bool.Decides.{Decides-eqb}
 use Rattle.std.proofs.lemmas.Slice.Eq.{strip_prefix_is}
-use Rattle.cosecmd.proofs.VouchedSignatures.{same_rest}
+use Rattle.cosecmd.proofs.lemmas.Keys.VouchedSignatures.{same_rest}
 use Rattle.cosecmd.proofs.vouch.rest_after.Goals as goal
 
 pub returns : goal.returns

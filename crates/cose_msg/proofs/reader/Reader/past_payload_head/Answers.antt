@@ -9,17 +9,17 @@ use Rattle.cose_msg.proofs.reader.Reader.past_payload_head.Goals as goal
 pub returns-in-Some-fault_of_nil : goal.returns-in-Some-fault_of_nil
 returns-in-Some-fault_of_nil g c = record {
   reads_on = λ task known st e none key same bare fed.
-      let source : task.setting.source ≡ detached (came_of task.setting.source) c.in-Some.stated = sym st ∙ ap (source_with (came_of task.setting.source)) c.in-Some.is in
-      let fault : nil_fault_within task.setting.payload_limit c.in-Some.stated c.args.head ≡ Some c.in-Some-fault_of_nil.reason = ap (λ (t : Task). nil_fault_within t.setting.payload_limit c.in-Some.stated c.args.head) (sym e.0) ∙ sym c.in-Some-fault_of_nil.ensures in
+      let source : task.setting.source ≡ detached (came_of task.setting.source) c.in-Some.detached_length = sym st ∙ ap (source_with (came_of task.setting.source)) c.in-Some.is in
+      let fault : nil_fault_within task.setting.payload_limit c.in-Some.detached_length c.args.head ≡ Some c.in-Some-fault_of_nil.reason = ap (λ (t : Task). nil_fault_within t.setting.payload_limit c.in-Some.detached_length c.args.head) (sym e.0) ∙ sym c.in-Some-fault_of_nil.ensures in
       along c.refuse.new.self _ _ (λ z. rw (source, fault) refl) (c.refuse.ensures task [] c.args.at (headers_so_far known.headers []) e refl);
 }
 
 pub returns-in-None-fault_of_nil : goal.returns-in-None-fault_of_nil
 returns-in-None-fault_of_nil g c = record {
   reads_on = λ task known st e none key same bare fed.
-      let source : task.setting.source ≡ detached (came_of task.setting.source) c.in-Some.stated = sym st ∙ ap (source_with (came_of task.setting.source)) c.in-Some.is in
-      let fault : nil_fault_within task.setting.payload_limit c.in-Some.stated c.args.head ≡ None = ap (λ (t : Task). nil_fault_within t.setting.payload_limit c.in-Some.stated c.args.head) (sym e.0) ∙ sym c.in-None-fault_of_nil.ensures in
-      let at_payload : IsAtPayload task known c.hash_front.new.self c.args.payload_head.kind c.in-Some.stated = c.hash_front.ensures.opened task known e none key same bare fed in
+      let source : task.setting.source ≡ detached (came_of task.setting.source) c.in-Some.detached_length = sym st ∙ ap (source_with (came_of task.setting.source)) c.in-Some.is in
+      let fault : nil_fault_within task.setting.payload_limit c.in-Some.detached_length c.args.head ≡ None = ap (λ (t : Task). nil_fault_within t.setting.payload_limit c.in-Some.detached_length c.args.head) (sym e.0) ∙ sym c.in-None-fault_of_nil.ensures in
+      let at_payload : IsAtPayload task known c.hash_front.new.self c.args.payload_head.kind c.in-Some.detached_length = c.hash_front.ensures.opened task known e none key same bare fed in
       along c.await_payload.new.self _ _ (λ z. rw (source, fault) refl) (c.await_payload.ensures.reads_on task known (came_of task.setting.source) at_payload source);
 }
 

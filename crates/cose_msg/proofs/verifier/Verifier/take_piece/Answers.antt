@@ -18,7 +18,7 @@ returns-clause-taken g c = λ task s B h.
     let source = ap (λ (t : Task). t.setting.source) h.made_for in
     let away = c.is_elsewhere-elsewhere.ensures ∙ ap asks h.made_for in
     let taken : (t : Task) → keys_for t ≡ keys_for task → asks t ≡ asks task → given_to [] t ≡ given_to [] task → SoFar t s B c.args.self.now.reader → SoFar t (s ++ piece) (grown phase B piece) c.advance.new.self =
-    λ t same aside others so. took_piece c.advance.new.self s piece (grown phase B) c.advance.result (message (rules_of g.row.H g.row.D t)) (c.advance.ensures.whole c.requires.wanted) (c.advance.ensures.reads_on t B _ _ (among ∙ sym same) (away ∙ sym aside) (stated_for c.args.self.now.stated task t source others) so) in
+    λ t same aside others so. took_piece c.advance.new.self s piece (grown phase B) c.advance.result (message (rules_of g.row.H g.row.D t)) (c.advance.ensures.whole c.requires.wanted) (c.advance.ensures.reads_on t B _ _ (among ∙ sym same) (away ∙ sym aside) (stated_for c.args.self.now.detached_length task t source others) so) in
     let now : SoFar task (s ++ piece) (grown phase B piece) c.advance.new.self = taken task refl refl refl h.so_far in
     let inside : in_payload phase ≡ true → task.setting.source ≡ attached = λ is. reads_on_attached h.so_far is in
     record {

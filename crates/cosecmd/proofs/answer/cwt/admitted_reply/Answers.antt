@@ -2,8 +2,8 @@ use Rattle.std.proofs.Common.{sym}
 use Rattle.cose_map.specs.KeyTable.{keys as usable}
 use Rattle.cose_msg.specs.Verifier.{setting_of}
 use Rattle.cosecmd.specs.Under.{under_of}
-use Rattle.cosecmd.proofs.Admissions.{says_admitted}
-use Rattle.cosecmd.proofs.Failures.{failed_as_answered}
+use Rattle.cosecmd.proofs.lemmas.Messages.Admissions.{says_admitted}
+use Rattle.cosecmd.proofs.lemmas.Files.Failures.{failed_as_answered}
 use Rattle.cosecmd.proofs.answer.cwt.admitted_reply.Goals as goal
 
 pub returns-clause-says : goal.returns-clause-says

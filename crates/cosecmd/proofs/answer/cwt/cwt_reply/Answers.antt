@@ -1,7 +1,7 @@
 use Rattle.std.proofs.Common.{SFits, rules, w64, ◌∙◌}
 use Rattle.std.proofs.lemmas.Int.{to_z-of_z}
 use Rattle.cosecmd.specs.Printed.{admitted_under}
-use Rattle.cosecmd.proofs.Asked.{says_equal_words, token_words}
+use Rattle.cosecmd.proofs.lemmas.Arguments.Asked.{says_equal_words, token_words}
 use Rattle.cosecmd.proofs.answer.cwt.cwt_reply.Goals as goal
 
 pub returns-in-Small-clause-says : goal.returns-in-Small-clause-says

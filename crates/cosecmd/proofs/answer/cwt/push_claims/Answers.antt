@@ -1,7 +1,7 @@
 use Rattle.std.proofs.Common.{codes, map}
 use Rattle.std.specs.List.{concat}
 use Rattle.cosecmd.specs.Admitted.{bytes_line, confirmation_lines, date_line, text_line, where_present}
-use Rattle.cosecmd.proofs.Admissions.{first_lines, then_lines}
+use Rattle.cosecmd.proofs.lemmas.Messages.Admissions.{first_lines, then_lines}
 use Rattle.cosecmd.proofs.answer.cwt.push_claims.Goals as goal
 
 pub returns-clause-lines : goal.returns-clause-lines

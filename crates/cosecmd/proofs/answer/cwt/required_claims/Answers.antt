@@ -3,7 +3,7 @@ use Rattle.cose_cwt.specs.declared.requirements.Unmet.{Unmet}
 use Rattle.cose_cwt.specs.Claims.View.{claims_value}
 use Rattle.cosecmd.specs.Admitted.{if_met, or_trailing}
 use Rattle.cosecmd.specs.Printed.{trailing_refusal}
-use Rattle.cosecmd.proofs.Failures.{not_failed}
+use Rattle.cosecmd.proofs.lemmas.Files.Failures.{not_failed}
 use Rattle.cosecmd.proofs.answer.cwt.required_claims.Goals as goal
 
 pub returns-in-Ok-clause-whole : goal.returns-in-Ok-clause-whole

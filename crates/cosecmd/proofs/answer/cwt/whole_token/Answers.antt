@@ -4,8 +4,8 @@ use Rattle.cose_cwt.specs.Admission.View.{policy_value}
 use Rattle.cose_cwt.specs.Claims.View.{claims_value}
 use Rattle.cose_cwt.specs.Requirements.View.{requirements_value}
 use Rattle.cosecmd.specs.Vouch.{vouching}
-use Rattle.cosecmd.proofs.Admissions.{left_of_run, of_left, unless_admitted}
-use Rattle.cosecmd.proofs.Failures.{then_failed, stopped_for_intake}
+use Rattle.cosecmd.proofs.lemmas.Messages.Admissions.{left_of_run, of_left, unless_admitted}
+use Rattle.cosecmd.proofs.lemmas.Files.Failures.{then_failed, stopped_for_intake}
 use Rattle.cosecmd.proofs.answer.cwt.whole_token.Goals as goal
 
 pub returns-in-Ok-clause-whole : goal.returns-in-Ok-clause-whole

@@ -1,6 +1,6 @@
 use Rattle.std.proofs.Common.{sym}
 use Rattle.cose_map.specs.KeySet.View.{keys as usable}
-use Rattle.cosecmd.proofs.Listings.{no_item}
+use Rattle.cosecmd.proofs.lemmas.Keys.Listings.{no_item}
 use Rattle.cosecmd.proofs.answer.keys.keys_reply.Goals as goal
 
 pub returns-in-Err-read-clause-keys : goal.returns-in-Err-read-clause-keys

@@ -3,8 +3,8 @@ use Rattle.cose_head.specs.ItemRef.{placed}
 use Rattle.cose_map.specs.KeySet.View.{keys as usable}
 use Rattle.cosecmd.specs.AskedKeys.{asked}
 use Rattle.cosecmd.specs.Printed.{items_listed_for}
-use Rattle.cosecmd.proofs.AskedKeys.{says_of_items}
-use Rattle.cosecmd.proofs.Listings.{no_item}
+use Rattle.cosecmd.proofs.lemmas.Keys.AskedKeys.{says_of_items}
+use Rattle.cosecmd.proofs.lemmas.Keys.Listings.{no_item}
 use Rattle.cosecmd.proofs.answer.keys.keys_reply_for.Goals as goal
 
 pub returns-in-Ok-read-clause-says : goal.returns-in-Ok-read-clause-says

@@ -1,6 +1,6 @@
 use Rattle.std.proofs.Common.{◌≡◌, ◌∙◌, ◌++◌, ℕ, List, ap, codes, string_bytes}
 use Rattle.cosecmd.specs.KeysListed.{condition_word}
-use Rattle.cosecmd.proofs.Listings.{two_more}
+use Rattle.cosecmd.proofs.lemmas.Keys.Listings.{two_more}
 use Rattle.cosecmd.proofs.answer.keys.push_condition.Goals as goal
 
 pub returns-clause-words : goal.returns-clause-words

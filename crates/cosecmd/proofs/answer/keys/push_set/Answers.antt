@@ -1,6 +1,6 @@
 use Rattle.std.proofs.Common.{◌∙◌, sym}
 use Rattle.cose_map.proofs.lemmas.KeySet.Items.{array_items, map_items, no_items}
-use Rattle.cosecmd.proofs.Listings.{all_counted, all_listed, none_counted, none_listed, one_counted, one_listed}
+use Rattle.cosecmd.proofs.lemmas.Keys.Listings.{all_counted, all_listed, none_counted, none_listed, one_counted, one_listed}
 use Rattle.cosecmd.proofs.answer.keys.push_set.Goals as goal
 
 pub returns-then-major-eq4-clause-lines : goal.returns-then-major-eq4-clause-lines

@@ -1,8 +1,8 @@
 use Rattle.std.proofs.Common.{ap, inr, refl, ◌∙◌}
 use Rattle.cosecmd.specs.Printed.{code_of}
-use Rattle.cosecmd.proofs.Asked.{ends_with, making_fault_words, making_words}
-use Rattle.cosecmd.proofs.MakeStops.{leaves_same, stops_by_line}
-use Rattle.cosecmd.proofs.Replies.{ends_so, is_fault, made_line}
+use Rattle.cosecmd.proofs.lemmas.Arguments.Asked.{ends_with, making_fault_words, making_words}
+use Rattle.cosecmd.proofs.lemmas.Making.MakeStops.{leaves_same, stops_by_line}
+use Rattle.cosecmd.proofs.lemmas.Messages.Replies.{ends_so, is_fault, made_line}
 use Rattle.cosecmd.proofs.answer.make.answer_make.Goals as goal
 
 pub returns-in-Ok-clause-printed : goal.returns-in-Ok-clause-printed

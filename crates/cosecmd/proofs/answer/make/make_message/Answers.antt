@@ -1,8 +1,8 @@
 use Rattle.std.proofs.Common.{◌≡◌, None, option_map, refl, sym, ◌∙◌, rules}
 use Rattle.cose_map.specs.Key.View.{contents, key_value}
 use Rattle.cose_msg.specs.Make.{argument_fault}
-use Rattle.cosecmd.proofs.MakeStops.{leaves_prefix}
-use Rattle.cosecmd.proofs.Makings.{makes_printed}
+use Rattle.cosecmd.proofs.lemmas.Making.MakeStops.{leaves_prefix}
+use Rattle.cosecmd.proofs.lemmas.Making.Makings.{makes_printed}
 use Rattle.cosecmd.proofs.answer.make.make_message.Goals as goal
 
 pub returns-in-Ok-made-clause-makes : goal.returns-in-Ok-made-clause-makes

@@ -5,8 +5,8 @@ use Rattle.cose_msg.specs.Shown.{Shown, protected_of, sign_input_of, unprotected
 use Rattle.cose_msg.specs.Verifier.{setting_of}
 use Rattle.cosecmd.specs.Under.{under_of}
 use Rattle.cosecmd.specs.Vouch.{vouching}
-use Rattle.cosecmd.proofs.MessageReplies.{says_answered}
-use Rattle.cosecmd.proofs.Replies.{says_under}
+use Rattle.cosecmd.proofs.lemmas.Messages.MessageReplies.{says_answered}
+use Rattle.cosecmd.proofs.lemmas.Messages.Replies.{says_under}
 use Rattle.cosecmd.proofs.answer.message.attached_reply.Goals as goal
 
 pub returns-in-Ok-verify-clause-says : goal.returns-in-Ok-verify-clause-says

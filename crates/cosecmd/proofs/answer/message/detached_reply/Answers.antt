@@ -5,7 +5,7 @@ use Rattle.cose_msg.specs.Shown.{Shown, protected_of, sign_input_of, unprotected
 use Rattle.cose_msg.specs.Verifier.{detaching, setting_of}
 use Rattle.cosecmd.specs.Under.{under_of}
 use Rattle.cosecmd.specs.Vouch.{vouching}
-use Rattle.cosecmd.proofs.DetachedReplies.{answered_of_run, replies_under}
+use Rattle.cosecmd.proofs.lemmas.Messages.DetachedReplies.{answered_of_run, replies_under}
 use Rattle.cosecmd.proofs.answer.message.detached_reply.Goals as goal
 
 pub returns-in-Ok-verdict-clause-says : goal.returns-in-Ok-verdict-clause-says

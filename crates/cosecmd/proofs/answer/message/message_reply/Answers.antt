@@ -2,7 +2,7 @@ use Rattle.std.proofs.Common.{List, None, Option, Some, ap, false, sym, true, â„
 use Rattle.cosecmd.specs.Payload.{detached_in, is_in_file}
 use Rattle.cosecmd.specs.Printed.{answered_under}
 use Rattle.cosecmd.specs.Under.{under_of}
-use Rattle.cosecmd.proofs.Asked.{file_detached, same_detached, says_equal_words}
+use Rattle.cosecmd.proofs.lemmas.Arguments.Asked.{file_detached, same_detached, says_equal_words}
 use Rattle.cosecmd.proofs.answer.message.message_reply.Goals as goal
 
 pub returns-in-Small-clause-says : goal.returns-in-Small-clause-says

@@ -1,5 +1,5 @@
 use Rattle.std.proofs.Common.{map, string_bytes}
-use Rattle.cosecmd.proofs.HeaderLabels.{says_headed}
+use Rattle.cosecmd.proofs.lemmas.Messages.HeaderLabels.{says_headed}
 use Rattle.cosecmd.proofs.answer.message.parameters_reply.Goals as goal
 
 pub returns-clause-says : goal.returns-clause-says

@@ -1,6 +1,6 @@
 use Rattle.std.proofs.Common.{subst, sym, ℕ}
 use Rattle.cosecmd.specs.Under.{under_of}
-use Rattle.cosecmd.proofs.Asked.{Part, file_words, known_part, says_equal_words}
+use Rattle.cosecmd.proofs.lemmas.Arguments.Asked.{Part, file_words, known_part, says_equal_words}
 use Rattle.cosecmd.proofs.answer.message.reply_from_file.Goals as goal
 
 pub returns-clause-says : goal.returns-clause-says

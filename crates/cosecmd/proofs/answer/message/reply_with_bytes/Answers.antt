@@ -1,6 +1,6 @@
 use Rattle.std.proofs.Common.{rules}
 use Rattle.cosecmd.specs.Under.{under_of}
-use Rattle.cosecmd.proofs.DetachedReplies.{says_with_bytes}
+use Rattle.cosecmd.proofs.lemmas.Messages.DetachedReplies.{says_with_bytes}
 use Rattle.cosecmd.proofs.answer.message.reply_with_bytes.Goals as goal
 
 pub returns-clause-says : goal.returns-clause-says

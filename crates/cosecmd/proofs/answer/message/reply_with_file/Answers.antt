@@ -2,9 +2,9 @@ use Rattle.std.proofs.Common.{◌<◌, ◌^◌, Ok, Result, rules, sym}
 use Rattle.cosecmd.specs.declared.fault.Fault.{Fault}
 use Rattle.cosecmd.specs.declared.reply.Reply.{Reply}
 use Rattle.cosecmd.specs.Under.{under_of}
-use Rattle.cosecmd.proofs.DetachedReplies.{says_from_reader}
-use Rattle.cosecmd.proofs.Failures.{keys_unrefused, stopped_by_second}
-use Rattle.cosecmd.proofs.PayloadFiles.{ends_whole}
+use Rattle.cosecmd.proofs.lemmas.Messages.DetachedReplies.{says_from_reader}
+use Rattle.cosecmd.proofs.lemmas.Files.Failures.{keys_unrefused, stopped_by_second}
+use Rattle.cosecmd.proofs.lemmas.Payloads.PayloadFiles.{ends_whole}
 use Rattle.cosecmd.proofs.answer.message.reply_with_file.Goals as goal
 
 pub returns-in-Ok-clause-says : goal.returns-in-Ok-clause-says

@@ -1,6 +1,6 @@
 use Rattle.std.proofs.Common.{sym, ◌∙◌}
 use Rattle.cose_msg.specs.Shown.{input_value, sign_input_of, signed_place}
-use Rattle.cosecmd.proofs.MessageReplies.{says_longer, says_unsigned, says_vouched}
+use Rattle.cosecmd.proofs.lemmas.Messages.MessageReplies.{says_longer, says_unsigned, says_vouched}
 use Rattle.cosecmd.proofs.answer.message.signature_reply.Goals as goal
 
 pub returns-in_default-clause-says : goal.returns-in_default-clause-says

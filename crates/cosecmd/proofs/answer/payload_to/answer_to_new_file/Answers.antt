@@ -1,8 +1,8 @@
 use Rattle.std.proofs.Common.{None, ap, sym, ◌∙◌}
 use Rattle.cosecmd.specs.Printed.{verified_under}
 use Rattle.cosecmd.specs.Under.{under_of}
-use Rattle.cosecmd.proofs.KeptPayloads.{differs_from_fault, is_done, is_refused, kept_as, payload_kept, removed_again, settled_by, settled_in_end, where_done, where_refused}
-use Rattle.cosecmd.proofs.Replies.{ends_so, is_fault}
+use Rattle.cosecmd.proofs.lemmas.Payloads.KeptPayloads.{differs_from_fault, is_done, is_refused, kept_as, payload_kept, removed_again, settled_by, settled_in_end, where_done, where_refused}
+use Rattle.cosecmd.proofs.lemmas.Messages.Replies.{ends_so, is_fault}
 use Rattle.cosecmd.proofs.answer.payload_to.answer_to_new_file.Goals as goal
 
 pub returns-clause-printed : goal.returns-clause-printed

@@ -1,7 +1,7 @@
 use Rattle.std.proofs.Common.{◌≡◌, ◌∙◌, ap, false, inr, refl, true}
 use Rattle.cosecmd.specs.Printed.{code_of}
-use Rattle.cosecmd.proofs.KeptPayloads.{file_line, holds_payload, none_made, stands, stands_removed, taken_before}
-use Rattle.cosecmd.proofs.Replies.{line_fails}
+use Rattle.cosecmd.proofs.lemmas.Payloads.KeptPayloads.{file_line, holds_payload, none_made, stands, stands_removed, taken_before}
+use Rattle.cosecmd.proofs.lemmas.Messages.Replies.{line_fails}
 use Rattle.cosecmd.proofs.answer.payload_to.answer_with_payload_to.Goals as goal
 
 pub returns-in-Err-clause-fails : goal.returns-in-Err-clause-fails

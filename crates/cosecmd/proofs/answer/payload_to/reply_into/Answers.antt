@@ -5,8 +5,8 @@ use Rattle.cose_msg.specs.Message.{Setting}
 use Rattle.cosecmd.specs.Printed.{input_answer}
 use Rattle.cosecmd.specs.Under.{under_of}
 use Rattle.cosecmd.specs.Vouch.{vouching}
-use Rattle.cosecmd.proofs.KeptPayloads.{payload_read}
-use Rattle.cosecmd.proofs.Replies.{says_verified}
+use Rattle.cosecmd.proofs.lemmas.Payloads.KeptPayloads.{payload_read}
+use Rattle.cosecmd.proofs.lemmas.Messages.Replies.{says_verified}
 use Rattle.cosecmd.proofs.answer.payload_to.reply_into.Goals as goal
 
 pub returns-clause-says : goal.returns-clause-says

@@ -1,5 +1,5 @@
 use Rattle.std.proofs.Common.{◌∙◌, rules}
-use Rattle.cosecmd.proofs.KeptPayloads.{lent_reply}
+use Rattle.cosecmd.proofs.lemmas.Payloads.KeptPayloads.{lent_reply}
 use Rattle.cosecmd.proofs.answer.payload_to.reply_written.Goals as goal
 
 pub returns-clause-payload : goal.returns-clause-payload

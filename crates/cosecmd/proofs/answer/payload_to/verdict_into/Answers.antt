@@ -5,8 +5,8 @@ use Rattle.cose_msg.specs.Message.{verifying}
 use Rattle.cose_msg.specs.Verifier.{setting_of}
 use Rattle.std.specs.Prelude.{option_map}
 use Rattle.cosecmd.specs.Vouch.{vouching}
-use Rattle.cosecmd.proofs.KeptPayloads.{payload_of_whole, where_ok}
-use Rattle.cosecmd.proofs.Trailing.{verdict_of_whole}
+use Rattle.cosecmd.proofs.lemmas.Payloads.KeptPayloads.{payload_of_whole, where_ok}
+use Rattle.cosecmd.proofs.lemmas.Messages.Trailing.{verdict_of_whole}
 use Rattle.cosecmd.proofs.answer.payload_to.verdict_into.Goals as goal
 
 pub returns-in-Ok-clause-verdict : goal.returns-in-Ok-clause-verdict

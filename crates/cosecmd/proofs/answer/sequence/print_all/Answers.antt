@@ -2,8 +2,8 @@ use Rattle.std.proofs.Common.{◌≢◌, ◌+◌, refl, ◌∙◌}
 use Rattle.cosecmd.specs.declared.answer.sequence.Step.TheVariants.{Over, Printed}
 use Rattle.cosecmd.specs.declared.fault.Fault.TheVariants as faults
 use Rattle.cosecmd.specs.declared.reply.Status.TheVariants as statuses
-use Rattle.cosecmd.proofs.PartLines.{joined_sound, same_step}
-use Rattle.cosecmd.proofs.Sequences.{SoFar, all_printed, ends_lost, fails_later, line_first, none_so_far, one_more}
+use Rattle.cosecmd.proofs.lemmas.Sequences.PartLines.{joined_sound, same_step}
+use Rattle.cosecmd.proofs.lemmas.Sequences.EachMessage.{SoFar, all_printed, ends_lost, fails_later, line_first, none_so_far, one_more}
 use Rattle.cosecmd.proofs.answer.sequence.print_all.Goals as goal
 
 pub messages-init : goal.messages-init

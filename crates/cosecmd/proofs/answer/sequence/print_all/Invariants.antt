@@ -1,6 +1,6 @@
 use Rattle.std.proofs.Common.{◌≡◌, ◌≢◌, ◌-◌, ◌^◌, ℕ, List, Some}
 use Rattle.cosecmd.specs.declared.reply.Status.TheVariants as statuses
-use Rattle.cosecmd.proofs.Sequences.{SoFar}
+use Rattle.cosecmd.proofs.lemmas.Sequences.EachMessage.{SoFar}
 use Rattle.cosecmd.proofs.answer.sequence.print_all.Given as goal
 
 -- The messages up to this place were printed.

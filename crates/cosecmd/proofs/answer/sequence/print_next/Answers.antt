@@ -1,6 +1,6 @@
 use Rattle.std.proofs.Common.{refl, ◌∙◌}
-use Rattle.cosecmd.proofs.PartLines.{is_next, part_fails, part_lost}
-use Rattle.cosecmd.proofs.Sequences.{line_first}
+use Rattle.cosecmd.proofs.lemmas.Sequences.PartLines.{is_next, part_fails, part_lost}
+use Rattle.cosecmd.proofs.lemmas.Sequences.EachMessage.{line_first}
 use Rattle.cosecmd.proofs.answer.sequence.print_next.Goals as goal
 
 pub returns-in-Err-clause-step : goal.returns-in-Err-clause-step

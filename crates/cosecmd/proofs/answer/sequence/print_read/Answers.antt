@@ -1,8 +1,8 @@
 use Rattle.std.proofs.Common.{inr, ◌∙◌}
 use Rattle.cosecmd.specs.declared.fault.Fault.TheVariants as faults
 use Rattle.cosecmd.specs.Sequence.{sequence_said}
-use Rattle.cosecmd.proofs.AskedSequences.{line_alone}
-use Rattle.cosecmd.proofs.VerifiedSequences.{through_buffer}
+use Rattle.cosecmd.proofs.lemmas.Arguments.AskedSequences.{line_alone}
+use Rattle.cosecmd.proofs.lemmas.Sequences.VerifiedSequences.{through_buffer}
 use Rattle.cosecmd.proofs.answer.sequence.print_read.Goals as goal
 
 pub returns-in-Err-clause-fails : goal.returns-in-Err-clause-fails

@@ -1,7 +1,7 @@
 use Rattle.std.proofs.Common.{[]}
 use Rattle.cose_map.specs.KeySet.View.{keys as usable}
 use Rattle.cose_msg.specs.Verifier.{setting_of}
-use Rattle.cosecmd.proofs.ShownMessages.{got_line, says_found}
+use Rattle.cosecmd.proofs.lemmas.Messages.ShownMessages.{got_line, says_found}
 use Rattle.cosecmd.proofs.answer.show.reply_with_payload.Goals as goal
 
 pub returns-clause-says : goal.returns-clause-says

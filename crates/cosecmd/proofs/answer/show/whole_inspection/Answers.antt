@@ -5,7 +5,7 @@ use Rattle.cose_msg.specs.Answer.{Answer}
 use Rattle.cose_msg.specs.Run.{SaysCount, inspection}
 use Rattle.cose_msg.specs.Shown.{Shown}
 use Rattle.cosecmd.specs.Printed.{trailed}
-use Rattle.cosecmd.proofs.ShownMessages.{finds, finds_shape, finds_trailing}
+use Rattle.cosecmd.proofs.lemmas.Messages.ShownMessages.{finds, finds_shape, finds_trailing}
 use Rattle.cosecmd.proofs.answer.show.whole_inspection.Goals as goal
 
 pub returns-in-Ok-Refused-clause-whole : goal.returns-in-Ok-Refused-clause-whole

@@ -1,5 +1,5 @@
 use Rattle.std.proofs.Common.{sym, ◌∙◌}
-use Rattle.cosecmd.proofs.Trailing.{same_if_last, refused_if_followed}
+use Rattle.cosecmd.proofs.lemmas.Messages.Trailing.{same_if_last, refused_if_followed}
 use Rattle.cosecmd.proofs.answer.verdict.whole_verdict.Goals as goal
 
 pub returns-in-Some-clause-whole : goal.returns-in-Some-clause-whole

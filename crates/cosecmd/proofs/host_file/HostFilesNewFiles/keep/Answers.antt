@@ -1,4 +1,4 @@
-use Rattle.cosecmd.proofs.HostFiles.{as_it_is, of_same_name, where_err}
+use Rattle.cosecmd.proofs.lemmas.Files.HostFiles.{as_it_is, of_same_name, where_err}
 use Rattle.cosecmd.proofs.host_file.HostFilesNewFiles.keep.Goals as goal
 
 pub returns-in_err-flush-clause-unkept : goal.returns-in_err-flush-clause-unkept

@@ -1,5 +1,5 @@
 use Rattle.std.proofs.Common.{rules, ◌<◌, ◌≤◌, length}
-use Rattle.cosecmd.proofs.PayloadFiles.{read_into}
+use Rattle.cosecmd.proofs.lemmas.Payloads.PayloadFiles.{read_into}
 use Rattle.cosecmd.proofs.payload_file.PayloadFileIntake.take.Goals as goal
 
 pub returns-in-Ok-clause-bytes : goal.returns-in-Ok-clause-bytes

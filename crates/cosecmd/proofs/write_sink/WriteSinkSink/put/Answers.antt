@@ -1,4 +1,4 @@
-use Rattle.cosecmd.proofs.WrittenPieces.{more_written}
+use Rattle.cosecmd.proofs.lemmas.Payloads.WrittenPieces.{more_written}
 use Rattle.cosecmd.proofs.write_sink.WriteSinkSink.put.Goals as goal
 
 pub bytes-preserved : goal.bytes-preserved

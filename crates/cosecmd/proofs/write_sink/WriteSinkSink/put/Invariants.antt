@@ -1,5 +1,5 @@
 use Rattle.std.proofs.Common.{◌≡◌, length}
-use Rattle.cosecmd.proofs.WrittenPieces.{Written}
+use Rattle.cosecmd.proofs.lemmas.Payloads.WrittenPieces.{Written}
 use Rattle.cosecmd.proofs.write_sink.WriteSinkSink.put.Given as goal
 
 abbrev pub invariant-bytes : goal.invariant-bytes

@@ -1,7 +1,7 @@
 use Rattle.std.proofs.Common.{◌∙◌}
 use Rattle.cose_head.specs.ItemRef.{placed}
 use Rattle.cose_map.specs.KeySet.{items_in}
-use Rattle.cosecmd.proofs.AskedKeys.{says_of_front}
+use Rattle.cosecmd.proofs.lemmas.Keys.AskedKeys.{says_of_front}
 use Rattle.cosecmd.proofs.answer.keys.asked.asked_reply.Goals as goal
 
 pub returns-in-Ok-clause-says : goal.returns-in-Ok-clause-says

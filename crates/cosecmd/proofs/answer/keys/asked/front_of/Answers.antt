@@ -1,4 +1,4 @@
-use Rattle.cosecmd.proofs.KeyFiles.{first_read}
+use Rattle.cosecmd.proofs.lemmas.Keys.KeyFiles.{first_read}
 use Rattle.cosecmd.proofs.answer.keys.asked.front_of.Goals as goal
 
 pub returns-in-Ok-clause-front : goal.returns-in-Ok-clause-front

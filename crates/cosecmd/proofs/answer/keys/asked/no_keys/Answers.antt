@@ -1,4 +1,4 @@
-use Rattle.cosecmd.proofs.AskedKeys.{read_so}
+use Rattle.cosecmd.proofs.lemmas.Keys.AskedKeys.{read_so}
 use Rattle.cosecmd.proofs.answer.keys.asked.no_keys.Goals as goal
 
 pub returns-clause-none : goal.returns-clause-none

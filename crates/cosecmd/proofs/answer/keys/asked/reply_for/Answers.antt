@@ -11,7 +11,7 @@ use Rattle.cose_msg.specs.Slice.{outcome}
 use Rattle.cose_msg.specs.Task.{rules_of, to_verify}
 use Rattle.cose_msg.specs.Verifier.{setting_in}
 use Rattle.cosecmd.specs.AskedKeys.{headers_found, headers_setting, headers_verdict, is_of_choice}
-use Rattle.cosecmd.proofs.AskedKeys.{refused_so, says_listed, says_refused}
+use Rattle.cosecmd.proofs.lemmas.Keys.AskedKeys.{refused_so, says_listed, says_refused}
 use Rattle.cosecmd.proofs.answer.keys.asked.reply_for.Goals as goal
 
 pub returns-in-Refused-clause-says : goal.returns-in-Refused-clause-says

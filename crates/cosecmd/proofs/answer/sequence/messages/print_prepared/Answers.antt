@@ -2,8 +2,8 @@ use Rattle.std.proofs.Common.{sym, ◌∙◌}
 use Rattle.cose_msg.specs.Verifier.{setting_in}
 use Rattle.cosecmd.specs.Sequence.{verified_sequence}
 use Rattle.cosecmd.specs.Under.{under_of}
-use Rattle.cosecmd.proofs.AskedSequences.{fails_as}
-use Rattle.cosecmd.proofs.VerifiedSequences.{prints_as, verified_as, verified_in}
+use Rattle.cosecmd.proofs.lemmas.Arguments.AskedSequences.{fails_as}
+use Rattle.cosecmd.proofs.lemmas.Sequences.VerifiedSequences.{prints_as, verified_as, verified_in}
 use Rattle.cosecmd.proofs.answer.sequence.messages.print_prepared.Goals as goal
 
 pub returns-clause-prints : goal.returns-clause-prints

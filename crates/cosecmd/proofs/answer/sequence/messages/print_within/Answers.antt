@@ -4,8 +4,8 @@ use Rattle.cose_msg.specs.Verifier.{setting_in}
 use Rattle.cosecmd.specs.declared.fault.Fault.TheVariants as faults
 use Rattle.cosecmd.specs.Sequence.{verified_sequence}
 use Rattle.cosecmd.specs.Under.{under_of}
-use Rattle.cosecmd.proofs.AskedSequences.{fails_as, line_alone}
-use Rattle.cosecmd.proofs.VerifiedSequences.{prints_as, verified_as, verified_in}
+use Rattle.cosecmd.proofs.lemmas.Arguments.AskedSequences.{fails_as, line_alone}
+use Rattle.cosecmd.proofs.lemmas.Sequences.VerifiedSequences.{prints_as, verified_as, verified_in}
 use Rattle.cosecmd.proofs.answer.sequence.messages.print_within.Goals as goal
 
 pub returns-in-Err-clause-fails : goal.returns-in-Err-clause-fails

@@ -10,8 +10,8 @@ use Rattle.cosecmd.specs.Admitted.{program_policy}
 use Rattle.cosecmd.specs.Arguments.{admitted_each_for}
 use Rattle.cosecmd.specs.Requirements.{requirements_for}
 use Rattle.cosecmd.specs.Under.{under_of}
-use Rattle.cosecmd.proofs.AskedSequences.{fails_as}
-use Rattle.cosecmd.proofs.VerifiedSequences.{admitted_as, admitted_in, prints_as}
+use Rattle.cosecmd.proofs.lemmas.Arguments.AskedSequences.{fails_as}
+use Rattle.cosecmd.proofs.lemmas.Sequences.VerifiedSequences.{admitted_as, admitted_in, prints_as}
 use Rattle.cosecmd.proofs.answer.sequence.tokens.print_prepared.Goals as goal
 
 pub returns-clause-prints : goal.returns-clause-prints

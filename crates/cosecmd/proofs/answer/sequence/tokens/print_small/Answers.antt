@@ -1,6 +1,6 @@
 use Rattle.cosecmd.specs.declared.fault.Fault.TheVariants as faults
 use Rattle.cosecmd.specs.Arguments.{admitted_each_for}
-use Rattle.cosecmd.proofs.AskedSequences.{line_alone}
+use Rattle.cosecmd.proofs.lemmas.Arguments.AskedSequences.{line_alone}
 use Rattle.cosecmd.proofs.answer.sequence.tokens.print_small.Goals as goal
 
 pub returns-in-Err-clause-fails : goal.returns-in-Err-clause-fails

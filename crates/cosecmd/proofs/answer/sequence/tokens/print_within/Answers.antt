@@ -12,8 +12,8 @@ use Rattle.cosecmd.specs.declared.fault.Fault.TheVariants as faults
 use Rattle.cosecmd.specs.Arguments.{admitted_each_for}
 use Rattle.cosecmd.specs.Requirements.{requirements_for}
 use Rattle.cosecmd.specs.Under.{under_of}
-use Rattle.cosecmd.proofs.AskedSequences.{fails_as, line_alone}
-use Rattle.cosecmd.proofs.VerifiedSequences.{admitted_as, admitted_in, prints_as}
+use Rattle.cosecmd.proofs.lemmas.Arguments.AskedSequences.{fails_as, line_alone}
+use Rattle.cosecmd.proofs.lemmas.Sequences.VerifiedSequences.{admitted_as, admitted_in, prints_as}
 use Rattle.cosecmd.proofs.answer.sequence.tokens.print_within.Goals as goal
 
 pub returns-in-Err-clause-fails : goal.returns-in-Err-clause-fails

@@ -6,7 +6,7 @@ use Rattle.cose_msg.specs.Task.{Task}
 use Rattle.cose_msg.specs.Verifier.{setting_in}
 use Rattle.cosecmd.specs.Printed.{Output, Says, input_answer, output_of}
 use Rattle.cosecmd.specs.Vouch.{vouching}
-use Rattle.cosecmd.proofs.NextMessages.{anew, next_found, none_left, took, verdict_alone}
+use Rattle.cosecmd.proofs.lemmas.Sequences.NextMessages.{anew, next_found, none_left, took, verdict_alone}
 use Rattle.cosecmd.proofs.answer.sequence.messages.MessagesParts.next.Goals as goal
 
 pub returns-then-taken-eq0-clause-part : goal.returns-then-taken-eq0-clause-part

@@ -10,8 +10,8 @@ use Rattle.cose_msg.specs.Verifier.{setting_in}
 use Rattle.cosecmd.specs.Admitted.{Admission, input_token, stopped_in}
 use Rattle.cosecmd.specs.Printed.{Says, outcome_said}
 use Rattle.cosecmd.specs.Vouch.{vouching}
-use Rattle.cosecmd.proofs.NextTokens.{took_token}
-use Rattle.cosecmd.proofs.NextMessages.{anew, next_found, none_left}
+use Rattle.cosecmd.proofs.lemmas.Sequences.NextTokens.{took_token}
+use Rattle.cosecmd.proofs.lemmas.Sequences.NextMessages.{anew, next_found, none_left}
 use Rattle.cosecmd.proofs.answer.sequence.tokens.TokensParts.next.Goals as goal
 
 pub returns-then-taken-eq0-clause-part : goal.returns-then-taken-eq0-clause-part

@@ -11,7 +11,7 @@ use Rattle.cosecmd.specs.Headers.{parameter_lines}
 use Rattle.cosecmd.specs.Printed.{Output, Says, headed_under, said_of, said_with, verified_for}
 use Rattle.cosecmd.specs.Under.{Under}
 use Rattle.cosecmd.specs.declared.reply.Reply.{Reply}
-use Rattle.cosecmd.proofs.MessageReplies.{says_equal}
+use Rattle.cosecmd.proofs.lemmas.Messages.MessageReplies.{says_equal}
 
 -- Where there is a label, its line is asked for; where there is none, the verdict alone.
 pub some_headed : {A : Type 0} (notation : A → List ℕ) (labels : List A) (under : Under) (payload : Option (List ℕ)) (bytes : List ℕ) → (length labels == 0) ≡ false →

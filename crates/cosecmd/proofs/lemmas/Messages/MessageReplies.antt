@@ -19,7 +19,7 @@ use Rattle.cose_msg.specs.Rules.{Rules}
 use Rattle.cose_msg.specs.Shown.{SignInput, sign_input_in, signed_with}
 use Rattle.cose_msg.specs.Unrefused.{BeginsWithMessage, IsUnrefused, UnrefusedIsMessage}
 use Rattle.cose_msg.specs.Reader.{Counts}
-use Rattle.cosecmd.proofs.Trailing.{all_taken, kept_at_end, left_of_input, refused_past, trails}
+use Rattle.cosecmd.proofs.lemmas.Messages.Trailing.{all_taken, kept_at_end, left_of_input, refused_past, trails}
 use Rattle.cosecmd.specs.declared.request.Question.{Question}
 use Rattle.cosecmd.specs.declared.request.Question.TheVariants as questions
 use Rattle.cosecmd.specs.declared.reply.Reply.{Reply}

@@ -22,8 +22,8 @@ use Rattle.cosecmd.specs.declared.reply.Reply.{Reply}
 use Rattle.cosecmd.specs.Inspection.{IsInspection}
 use Rattle.cosecmd.specs.Printed.{Output, Says, trailing_refusal, bucket_lines, pair_line, show_setting, shown_as, shown_in, shown_of, trailed}
 use Rattle.cosecmd.specs.Readable.{payload_shown}
-use Rattle.cosecmd.proofs.MessageReplies.{all_come_to}
-use Rattle.cosecmd.proofs.Trailing.{all_taken, kept_at_end, left_of_input, refused_past}
+use Rattle.cosecmd.proofs.lemmas.Messages.MessageReplies.{all_come_to}
+use Rattle.cosecmd.proofs.lemmas.Messages.Trailing.{all_taken, kept_at_end, left_of_input, refused_past}
 
 -- ---- what inspecting finds
 

@@ -19,7 +19,7 @@ use Rattle.cose_cwt.specs.Token.{IsRun, Outcome, of_claims, read_as, token_of}
 use Rattle.cose_map.specs.Map.Read.{Read}
 use Rattle.cosecmd.specs.Admitted.{Admission, if_admitted, input_token, stopped_in, token_told, unless_trailed}
 use Rattle.cosecmd.specs.Sequence.{is_read_to_its_end, is_whole}
-use Rattle.cosecmd.proofs.NextMessages.{Took, took}
+use Rattle.cosecmd.proofs.lemmas.Sequences.NextMessages.{Took, took}
 
 -- After the last byte of a token no byte follows it.
 none_trails : (n count : ℕ) (admission : Admission) → count ≡ n → unless_trailed n count admission ≡ admission

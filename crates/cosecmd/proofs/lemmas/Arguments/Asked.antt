@@ -87,11 +87,11 @@ make_words request words payload bytes is = rw is refl
 -- ---- a payload in a file
 
 -- The content of a file has as many bytes as are stated, and the payload is as many of them.
-pub record Part (stated : ℕ) (content payload : List ℕ) : Type 0 where
-  pub enough : nat_lt (length content) stated ≡ false
-  pub part : take stated content ≡ payload
+pub record Part (detached_length : ℕ) (content payload : List ℕ) : Type 0 where
+  pub enough : nat_lt (length content) detached_length ≡ false
+  pub part : take detached_length content ≡ payload
 
-pub stated_is_part : (stated : Option ℕ) (content payload : List ℕ) → stated_part stated content ≡ Some payload → Part (unwrap_or stated (length content)) content payload
+pub stated_is_part : (detached_length : Option ℕ) (content payload : List ℕ) → stated_part detached_length content ≡ Some payload → Part (unwrap_or detached_length (length content)) content payload
 stated_is_part None content payload is =
     let same : content ≡ payload = cc in
     record { enough = le-ltb (length content) (length content) (omega arith); part = take-length content ∙ same }
@@ -107,14 +107,14 @@ stated_is_part (Some count) content payload is = go (nat_lt (length content) cou
         record { enough = e; part = same }
 
 -- A file whose part is known has a content that is known.
-pub record KnownPart (content : Option (List ℕ)) (stated : Option ℕ) (payload : List ℕ) : Type 0 where
+pub record KnownPart (content : Option (List ℕ)) (detached_length : Option ℕ) (payload : List ℕ) : Type 0 where
   pub bytes : List ℕ
   pub known : content ≡ Some bytes
-  pub part : Part (unwrap_or stated (length bytes)) bytes payload
+  pub part : Part (unwrap_or detached_length (length bytes)) bytes payload
 
-pub known_part : (content : Option (List ℕ)) (stated : Option ℕ) (payload : List ℕ) → option_and_then (stated_part stated) content ≡ Some payload → KnownPart content stated payload
-known_part None stated payload is = cc
-known_part (Some bytes) stated payload is = record { bytes = bytes; known = refl; part = stated_is_part stated bytes payload is }
+pub known_part : (content : Option (List ℕ)) (detached_length : Option ℕ) (payload : List ℕ) → option_and_then (stated_part detached_length) content ≡ Some payload → KnownPart content detached_length payload
+known_part None detached_length payload is = cc
+known_part (Some bytes) detached_length payload is = record { bytes = bytes; known = refl; part = stated_is_part detached_length bytes payload is }
 
 pub file_words : (question : Question) (under : Under) (payload_length : ℕ) (content payload bytes : List ℕ) → Part payload_length content payload →
     answered_from question under payload_length content bytes ≡ answered_under question under (Some payload) bytes
@@ -135,13 +135,13 @@ same_detached one other detached is known =
     let both = sym is ∙ known in
     cc
 
-pub file_detached : (content : List ℕ → Option (List ℕ)) (from : Payload) (payload : Option (List ℕ)) (name : Bor (List ℕ)) (stated : Option ℕ) → from ≡ File name stated → detached_in content from ≡ Some payload →
-    (part : List ℕ) × (part_of_file content name.now stated ≡ Some part) × (Some part ≡ payload)
-file_detached content from payload name stated is known = go (part_of_file content name.now stated) refl
+pub file_detached : (content : List ℕ → Option (List ℕ)) (from : Payload) (payload : Option (List ℕ)) (name : Bor (List ℕ)) (detached_length : Option ℕ) → from ≡ File name detached_length → detached_in content from ≡ Some payload →
+    (part : List ℕ) × (part_of_file content name.now detached_length ≡ Some part) × (Some part ≡ payload)
+file_detached content from payload name detached_length is known = go (part_of_file content name.now detached_length) refl
   where
-    told : option_map Some (part_of_file content name.now stated) ≡ Some payload
+    told : option_map Some (part_of_file content name.now detached_length) ≡ Some payload
     told = rw is at known
 
-    go : (part : Option (List ℕ)) → part_of_file content name.now stated ≡ part → (part : List ℕ) × (part_of_file content name.now stated ≡ Some part) × (Some part ≡ payload)
+    go : (part : Option (List ℕ)) → part_of_file content name.now detached_length ≡ part → (part : List ℕ) × (part_of_file content name.now detached_length ≡ Some part) × (Some part ≡ payload)
     go None e = let none : None ≡ Some payload = rw e at told in cc
     go (Some part) e = let some : Some (Some part) ≡ Some payload = rw e at told in let same : Some part ≡ payload = cc in (part, e, same)

@@ -18,7 +18,7 @@ use Rattle.cosecmd.specs.declared.answer.sequence.Part.{Part}
 use Rattle.cosecmd.specs.Part.{IsNext}
 use Rattle.cosecmd.specs.Printed.{Output, Says, followed_by, input_answer, output_of, said_of, trailed}
 use Rattle.cosecmd.specs.Sequence.{is_whole}
-use Rattle.cosecmd.proofs.Trailing.{left_of_input, trails}
+use Rattle.cosecmd.proofs.lemmas.Messages.Trailing.{left_of_input, trails}
 
 -- A verifier that was reset, for what it was made for.
 pub anew : {H D : ℕ} {S : Type 0} {K : _} (made reset : Verifier H D S K) → is_inspecting made ≡ false → HasTaken (task_of made) [] [] reset → HasTaken (to_verify (setting_in made)) [] [] reset

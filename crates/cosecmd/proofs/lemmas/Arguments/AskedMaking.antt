@@ -7,7 +7,7 @@ use Rattle.cosecmd.specs.Printed.{Fails, Output}
 use Rattle.cosecmd.specs.declared.request.Make.{Make}
 use Rattle.cosecmd.specs.declared.request.Request.{Request}
 use Rattle.cosecmd.specs.declared.request.Request.TheVariants as asks
-use Rattle.cosecmd.proofs.MakeStops.{stops_same}
+use Rattle.cosecmd.proofs.lemmas.Making.MakeStops.{stops_same}
 
 pub made_words : (request : Request) (words : Make) (payload : Option (List ℕ)) (bytes : List ℕ) → request ≡ asks.Make words → made_for words bytes ≡ asked_for request payload bytes
 made_words request words payload bytes is = rw is refl

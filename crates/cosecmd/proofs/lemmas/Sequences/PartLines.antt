@@ -10,7 +10,7 @@ use Rattle.cosecmd.specs.declared.reply.Status.TheVariants as statuses
 use Rattle.cosecmd.specs.Printed.{Output, Prints}
 use Rattle.cosecmd.specs.Part.{Follows, IsNext, IsNextOf, Steps, part_text}
 use Rattle.cosecmd.specs.Sequence.{FailsAfter, Reads, is_whole, joined_status, lost, lost_line, message_then, messages_from, place_line, placed, then_said}
-use Rattle.cosecmd.proofs.Sequences.{from_first, text_fails}
+use Rattle.cosecmd.proofs.lemmas.Sequences.EachMessage.{from_first, text_fails}
 
 -- What is printed for an input that begins with a message.
 abbrev after_message : Reads → (List ℕ → Output) → ℕ → List ℕ → List ℕ → Output

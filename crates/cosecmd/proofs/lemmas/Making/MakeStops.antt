@@ -20,7 +20,7 @@ use Rattle.cosecmd.specs.Faults.{WritesLine}
 use Rattle.cosecmd.specs.MakeStops.{AgreeInFront, LeavesPrefix, StopsMaking}
 use Rattle.cosecmd.specs.Printed.{Output, made_under, message_made, unless_faulty}
 use Rattle.cosecmd.specs.WriteSink.{held_through}
-use Rattle.cosecmd.proofs.WrittenPieces.{lent, whole_front}
+use Rattle.cosecmd.proofs.lemmas.Payloads.WrittenPieces.{lent, whole_front}
 
 -- What was taken are the first bytes of the input.
 first_taken : (bytes taken : List ℕ) (come_after : Option (List ℕ)) (result : Result ℕ MakeFault) → TakesPayload (Some bytes) come_after result taken → IsPrefix bytes taken

@@ -26,7 +26,7 @@ use Rattle.cosecmd.specs.Admitted.{Admission, if_admitted, if_met, input_token, 
 use Rattle.cosecmd.specs.Printed.{Says, admitted_under, trailing_refusal, outcome_said, token_setting}
 use Rattle.cosecmd.specs.Under.{Under}
 use Rattle.cosecmd.specs.Vouch.{vouching}
-use Rattle.cosecmd.proofs.Replies.{said_with_keys}
+use Rattle.cosecmd.proofs.lemmas.Messages.Replies.{said_with_keys}
 
 -- The lines of a part after those so far, by the values that the code gave for it.
 pub first_lines : {A : Type 0} (lines : A → List ℕ) (told wanted : A) (before all : List ℕ) → told ≡ wanted → all ≡ before ++ lines told → all ≡ before ++ lines wanted

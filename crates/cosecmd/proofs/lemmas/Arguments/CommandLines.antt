@@ -29,7 +29,7 @@ use Rattle.cosecmd.specs.declared.reply.Reply.{Reply}
 use Rattle.cosecmd.specs.declared.reply.Status.TheVariants as statuses
 use Rattle.cosecmd.specs.declared.arguments.Parsed.{Parsed}
 use Rattle.cosecmd.specs.declared.arguments.Parsed.TheVariants.{Matches, Text as ClapText}
-use Rattle.cosecmd.proofs.RequiredOptions.{same_requirements}
+use Rattle.cosecmd.proofs.lemmas.Arguments.RequiredOptions.{same_requirements}
 
 -- The checks and the payload that the options state are those that they ask for, and this is printed for them.
 pub payload_asks : (prints : Under → Option (List ℕ) → List ℕ → Output) (under : Option Under) (found : Option (Option (List ℕ))) (checks : Checks) (payload : Option (Option (List ℕ))) (bytes : List ℕ) (said : Output)

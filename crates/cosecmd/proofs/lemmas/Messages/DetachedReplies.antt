@@ -27,10 +27,10 @@ use Rattle.cosecmd.specs.Printed.{Output, Says, answered_in, answered_under, dig
 use Rattle.cosecmd.specs.Stated.{AnsweredOf, RepliesWith, answered_from, answered_of_short, answered_short, payload_wanted_of, stating, unless_missing}
 use Rattle.cosecmd.specs.Under.{Under}
 use Rattle.cosecmd.specs.Vouch.{vouching}
-use Rattle.cosecmd.proofs.MessageReplies.{is_answered, says_equal, wanted_whole}
-use Rattle.cosecmd.proofs.Replies.{said_with_keys}
-use Rattle.cosecmd.proofs.ShortPayloads.{came_of_short, none_of}
-use Rattle.cosecmd.proofs.Trailing.{left_of_input}
+use Rattle.cosecmd.proofs.lemmas.Messages.MessageReplies.{is_answered, says_equal, wanted_whole}
+use Rattle.cosecmd.proofs.lemmas.Messages.Replies.{said_with_keys}
+use Rattle.cosecmd.proofs.lemmas.Payloads.ShortPayloads.{came_of_short, none_of}
+use Rattle.cosecmd.proofs.lemmas.Messages.Trailing.{left_of_input}
 
 -- What is printed is a function of the reading before anybody decides on the signature.
 abbrev answered_by : Question → List ℕ → Decides → ℕ → Reading → Output

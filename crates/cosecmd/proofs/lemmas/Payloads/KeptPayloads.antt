@@ -23,9 +23,9 @@ use Rattle.cosecmd.specs.Printed.{Output, Prints, Says, code_of, setting_under}
 use Rattle.cosecmd.specs.Under.{Under}
 use Rattle.cosecmd.specs.Vouch.{vouching}
 use Rattle.cosecmd.specs.WriteSink.{held_through}
-use Rattle.cosecmd.proofs.MessageReplies.{all_come_to}
-use Rattle.cosecmd.proofs.Trailing.{left_of_input}
-use Rattle.cosecmd.proofs.WrittenPieces.{lent}
+use Rattle.cosecmd.proofs.lemmas.Messages.MessageReplies.{all_come_to}
+use Rattle.cosecmd.proofs.lemmas.Messages.Trailing.{left_of_input}
+use Rattle.cosecmd.proofs.lemmas.Payloads.WrittenPieces.{lent}
 
 pub where_ok : {A F : Type 0} (answer : Result A F) (P : Type 0) → P → IfOk answer (λ _. P)
 where_ok (Ok x) P p = p

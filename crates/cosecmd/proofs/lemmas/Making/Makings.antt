@@ -12,7 +12,7 @@ use Rattle.cose_msg.specs.Message.{secret_of}
 use Rattle.cosecmd.specs.declared.reply.Status.TheVariants as statuses
 use Rattle.cosecmd.specs.Printed.{Output, Prints, made_under, message_made, unless_faulty}
 use Rattle.cosecmd.specs.WriteSink.{held_through}
-use Rattle.cosecmd.proofs.WrittenPieces.{lent}
+use Rattle.cosecmd.proofs.lemmas.Payloads.WrittenPieces.{lent}
 
 -- The bytes that were taken are the first ones of the input, as many as the payload has.
 pub taken_first : (come_after : Option (List ℕ)) (bytes taken : List ℕ) → Consumes (Some bytes) come_after taken → (take (length taken) bytes ≡ taken) × (length taken ≤ length bytes)

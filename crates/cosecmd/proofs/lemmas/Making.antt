@@ -1,0 +1,2 @@
+pub mod MakeStops
+pub mod Makings

@@ -1,0 +1,4 @@
+pub mod KeptPayloads
+pub mod PayloadFiles
+pub mod ShortPayloads
+pub mod WrittenPieces

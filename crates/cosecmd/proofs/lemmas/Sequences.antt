@@ -1,0 +1,5 @@
+pub mod EachMessage
+pub mod NextMessages
+pub mod NextTokens
+pub mod PartLines
+pub mod VerifiedSequences
