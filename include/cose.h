@@ -2226,6 +2226,75 @@ static inline void cose_mismatch(const struct cose_terms *terms, const uint8_t *
     cose_edge_mismatch(&cose_terms_, cose_slice_(message), message_length, place, fit);
 }
 
+void cose_edge_fed_key_of(struct cose_verifier *verifier, const struct cose_terms *terms, struct cose_item *key);
+
+/** Which key of the terms' key set the message of a verifier that is fed is verified with: the item of the set that the key is, once both
+ * header buckets were found good, until the verifier is reset. The kind of the terms is that of the message, 17 or 18, as its verdict
+ * has it. No item before that, or where no key fits; where several do, no message is verified with them, and this is the first. */
+static inline void cose_fed_key_of(struct cose_verifier *verifier, const struct cose_terms *terms, struct cose_item *key)
+{
+    struct cose_terms cose_terms_ = *terms;
+    if (cose_is_null_(terms->keys, terms->keys_length) || cose_is_null_(terms->aad, terms->aad_length)) {
+        memset(key, 0, sizeof *key);
+        return;
+    }
+    cose_terms_.keys = cose_slice_(terms->keys);
+    cose_terms_.aad = cose_slice_(terms->aad);
+    cose_edge_fed_key_of(verifier, &cose_terms_, key);
+}
+
+void cose_edge_large_key_of(const struct cose_terms *terms, const uint8_t *message, uint64_t message_length, struct cose_item *key);
+
+/** Which key of the terms' key set a message with large header buckets is verified with, as `cose_key_of` says it of others. */
+static inline void cose_large_key_of(const struct cose_terms *terms, const uint8_t *message, size_t message_length, struct cose_item *key)
+{
+    struct cose_terms cose_terms_ = *terms;
+    if (cose_is_null_(terms->keys, terms->keys_length) ||
+        cose_is_null_(terms->aad, terms->aad_length) ||
+        cose_is_null_(message, message_length)) {
+        memset(key, 0, sizeof *key);
+        return;
+    }
+    cose_terms_.keys = cose_slice_(terms->keys);
+    cose_terms_.aad = cose_slice_(terms->aad);
+    cose_edge_large_key_of(&cose_terms_, cose_slice_(message), message_length, key);
+}
+
+void cose_edge_large_mismatch(const struct cose_terms *terms, const uint8_t *message, uint64_t message_length, uint64_t place,
+    struct cose_key_fit *fit);
+
+/** Why the key at this place isn't the one that such a message is verified with, as `cose_mismatch` says it of others. */
+static inline void cose_large_mismatch(const struct cose_terms *terms, const uint8_t *message, size_t message_length, uint64_t place,
+    struct cose_key_fit *fit)
+{
+    struct cose_terms cose_terms_ = *terms;
+    if (cose_is_null_(terms->keys, terms->keys_length) ||
+        cose_is_null_(terms->aad, terms->aad_length) ||
+        cose_is_null_(message, message_length)) {
+        memset(fit, 0, sizeof *fit);
+        fit->status = COSE_BAD_ARGUMENT;
+        return;
+    }
+    cose_terms_.keys = cose_slice_(terms->keys);
+    cose_terms_.aad = cose_slice_(terms->aad);
+    cose_edge_large_mismatch(&cose_terms_, cose_slice_(message), message_length, place, fit);
+}
+
+void cose_edge_large_fed_key_of(struct cose_large_verifier *verifier, const struct cose_terms *terms, struct cose_item *key);
+
+/** Which key of the terms' key set the message of a verifier that is fed is verified with, as `cose_fed_key_of` says it of others. */
+static inline void cose_large_fed_key_of(struct cose_large_verifier *verifier, const struct cose_terms *terms, struct cose_item *key)
+{
+    struct cose_terms cose_terms_ = *terms;
+    if (cose_is_null_(terms->keys, terms->keys_length) || cose_is_null_(terms->aad, terms->aad_length)) {
+        memset(key, 0, sizeof *key);
+        return;
+    }
+    cose_terms_.keys = cose_slice_(terms->keys);
+    cose_terms_.aad = cose_slice_(terms->aad);
+    cose_edge_large_fed_key_of(verifier, &cose_terms_, key);
+}
+
 #ifdef __cplusplus
 }
 #endif

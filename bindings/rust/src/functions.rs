@@ -62,6 +62,13 @@ pub(crate) struct Functions<V> {
     pub(crate) size: extern "C" fn() -> usize,
     pub(crate) align: extern "C" fn() -> usize,
     pub(crate) begin: unsafe extern "C" fn(at: *mut u8),
+    pub(crate) key_of: unsafe extern "C" fn(
+        terms: &raw::Terms, message: Bytes, message_length: usize, key: &mut raw::Item,
+    ),
+    pub(crate) mismatch: unsafe extern "C" fn(
+        terms: &raw::Terms, message: Bytes, message_length: usize, place: u64, fit: &mut raw::KeyFit,
+    ),
+    pub(crate) fed_key_of: unsafe extern "C" fn(verifier: &mut V, terms: &raw::Terms, key: &mut raw::Item),
     pub(crate) verify: unsafe extern "C" fn(
         keys: Bytes, keys_length: usize, aad: Bytes, aad_length: usize, wanted: u8, message: Bytes,
         message_length: usize, verdict: &mut raw::Verdict, input: &mut raw::SignInput,
@@ -132,6 +139,9 @@ impl Library for Small {
         size: raw::cose_verifier_size,
         align: raw::cose_verifier_align,
         begin: raw::cose_begin,
+        key_of: raw::cose_edge_key_of,
+        mismatch: raw::cose_edge_mismatch,
+        fed_key_of: raw::cose_edge_fed_key_of,
         verify: raw::cose_edge_verify,
         verify_detached: raw::cose_edge_verify_detached,
         parameter: raw::cose_edge_parameter,
@@ -176,6 +186,9 @@ impl Library for Large {
         size: raw::cose_large_verifier_size,
         align: raw::cose_large_verifier_align,
         begin: raw::cose_large_begin,
+        key_of: raw::cose_edge_large_key_of,
+        mismatch: raw::cose_edge_large_mismatch,
+        fed_key_of: raw::cose_edge_large_fed_key_of,
         verify: raw::cose_edge_large_verify,
         verify_detached: raw::cose_edge_large_verify_detached,
         parameter: raw::cose_edge_large_parameter,

@@ -434,6 +434,12 @@ unsafe extern "C" {
         payload: *const u8, payload_length: usize, name: *const u8, name_length: usize, item: &mut Item,
     );
     pub(crate) fn cose_edge_item_at(payload: *const u8, payload_length: usize, place: u64, item: &mut Item);
+    pub(crate) fn cose_edge_fed_key_of(verifier: &mut Verifier, terms: &Terms, key: &mut Item);
+    pub(crate) fn cose_edge_large_key_of(terms: &Terms, message: *const u8, message_length: usize, key: &mut Item);
+    pub(crate) fn cose_edge_large_mismatch(
+        terms: &Terms, message: *const u8, message_length: usize, place: u64, fit: &mut KeyFit,
+    );
+    pub(crate) fn cose_edge_large_fed_key_of(verifier: &mut LargeVerifier, terms: &Terms, key: &mut Item);
     pub(crate) fn cose_edge_key_of(terms: &Terms, message: *const u8, message_length: usize, key: &mut Item);
     pub(crate) fn cose_edge_mismatch(
         terms: &Terms, message: *const u8, message_length: usize, place: u64, fit: &mut KeyFit,

@@ -19,6 +19,7 @@ pub mod Signers
 pub mod Sizes
 pub mod Streams
 pub mod Strings
+pub mod TablesFilled
 pub mod TablesUnder
 pub mod Tails
 pub mod Wider

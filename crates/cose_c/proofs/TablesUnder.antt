@@ -1,19 +1,18 @@
 -- A table that is read under terms: what is answered, and what is left in the block.
 use Rattle.std.proofs.Common.{◌≡◌, ℕ, Bool, true, false, List, [], length, Option, Some, None, Result, Ok, Err, refl, sym, ap, ◌∙◌, if◌then◌else◌}
-use Rattle.cose_map.specs.declared.key_table.KeyTable.{KeyTable}
 use Rattle.cose_map.specs.Key.Value.{KeyValue}
 use Rattle.cose_map.specs.Label.{LabelValue}
-use Rattle.cose_map.specs.KeyTable.{keys as keys_of_table}
 use Rattle.cose_map.specs.Map.Read.{Read}
 use Rattle.cose_msg.specs.declared.context.Wanted.{Wanted}
 use Rattle.cose_msg.specs.Message.{Setting}
 use Rattle.cose_c.specs.declared.numbers.CoseStatus.{CoseStatus}
 use Rattle.cose_c.specs.declared.stated.CoseTerms.{CoseTerms}
+use Rattle.cose_c.specs.declared.table.keys.TableKeys.{TableKeys}
 use Rattle.cose_c.specs.declared.table.kept.TableTerms.{TableTerms}
 use Rattle.cose_c.specs.KeySet.{key_set_numbers, no_key_set}
 use Rattle.cose_c.specs.Numbers.{plain_status, refused_status}
 use Rattle.cose_c.specs.Stated.{is_unknown, labels_stated, setting_among}
-use Rattle.cose_c.specs.Table.{keys_in, keys_read}
+use Rattle.cose_c.specs.Table.{keys_held, keys_in, keys_read}
 use Rattle.cose_c.specs.TableUnder.{setting_by_terms, setting_in_table, setting_left, setting_of_both, setting_with_keys, table_numbers}
 use Rattle.cose_c.specs.Terms.{kinds_given}
 
@@ -46,11 +45,11 @@ module _ (terms : CoseTerms) where
   with_good stated (Ok keys) is = rw (← is keys) refl
   with_good stated (Err refusal) is = rw (refused_for_keys stated refusal (is [])) refl
 
-  left_good : (stated : TableTerms) (read : Read (List KeyValue)) (content : Option (KeyTable 64)) →
+  left_good : (stated : TableTerms) (read : Read (List KeyValue)) (content : Option TableKeys) →
       ((keys : List KeyValue) → Ok (setting_with_keys stated keys) ≡ setting_by_terms terms (Ok keys)) → keys_in content ≡ keys_read read →
       setting_of_both content (Some stated) ≡ setting_left (setting_by_terms terms read)
   left_good stated (Ok keys) None is has = absurd cc
-  left_good stated (Ok keys) (Some table) is has = let same : keys_of_table table ≡ keys = cc in rw (← is keys, same) refl
+  left_good stated (Ok keys) (Some table) is has = let same : keys_held table ≡ keys = cc in rw (← is keys, same) refl
   left_good stated (Err refusal) None is has = rw (refused_for_keys stated refusal (is [])) refl
   left_good stated (Err refusal) (Some table) is has = absurd cc
 
@@ -59,7 +58,7 @@ module _ (terms : CoseTerms) where
       ((keys : List KeyValue) → setting_in_table result keys ≡ setting_by_terms terms (Ok keys)) → key_set_numbers read ≡ table_numbers (setting_by_terms terms read)
   numbers_good result stated read found is = with_good stated read (λ keys. ap (λ r. setting_in_table r keys) (sym found) ∙ is keys)
 
-  pub kept_good : (result : Result TableTerms CoseStatus) (stated : TableTerms) (read : Read (List KeyValue)) (content : Option (KeyTable 64)) → result ≡ Ok stated →
+  pub kept_good : (result : Result TableTerms CoseStatus) (stated : TableTerms) (read : Read (List KeyValue)) (content : Option TableKeys) → result ≡ Ok stated →
       ((keys : List KeyValue) → setting_in_table result keys ≡ setting_by_terms terms (Ok keys)) → keys_in content ≡ keys_read read →
       setting_of_both content (Some stated) ≡ setting_left (setting_by_terms terms read)
   kept_good result stated read content found is has = left_good stated read content (λ keys. ap (λ r. setting_in_table r keys) (sym found) ∙ is keys) has

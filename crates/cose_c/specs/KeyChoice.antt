@@ -1,5 +1,5 @@
 -- Which key of a set a message is verified with, and why a key isn't (RFC 9052 section 7.1).
-use Rattle.std.specs.Prelude.{ℕ, ℤ, List, [], ◌∷◌, Option, Some, None, Result, Ok, Err, if◌then◌else◌, option_and_then, ◌==◌}
+use Rattle.std.specs.Prelude.{ℕ, ℤ, true, false, List, [], ◌∷◌, Option, Some, None, Result, Ok, Err, if◌then◌else◌, option_and_then, ◌==◌}
 use Rattle.cose_head.specs.declared.kind.Kind.{Kind}
 use Rattle.cose_head.specs.declared.kind.Kind.TheVariants as kinds
 use Rattle.cose_head.specs.Placed.{Placed}
@@ -17,15 +17,19 @@ use Rattle.cose_map.specs.Map.Read.{Read}
 use Rattle.cose_msg.specs.declared.status.Status.{Status}
 use Rattle.cose_msg.specs.declared.status.Status.TheVariants as statuses
 use Rattle.cose_msg.specs.Message.{Setting, either, message, operation_of}
+use Rattle.cose_msg.specs.Naming.{asked_by}
 use Rattle.cose_msg.specs.Reading.{Findings, Reading}
 use Rattle.cose_msg.specs.Status.{status_of_reading}
 use Rattle.cose_msg.specs.Task.{rules_of, to_inspect}
 use Rattle.cose_c.specs.declared.key_choice.CoseKeyFit.{CoseKeyFit}
 use Rattle.cose_c.specs.declared.numbers.CoseStatus.{CoseStatus}
+use Rattle.cose_c.specs.declared.stated.CoseTerms.{CoseTerms}
 use Rattle.cose_c.specs.Item.{item_at}
 use Rattle.cose_c.specs.Numbers.{plain_status, refused_status}
+use Rattle.cose_c.specs.Parameter.{bucket_by}
 use Rattle.cose_c.specs.Permitted.{PermissionValue, is_fitting, permits}
-use Rattle.cose_c.specs.Stream.{status_numbers}
+use Rattle.cose_c.specs.Stated.{is_unknown, permission_stated}
+use Rattle.cose_c.specs.Stream.{Content, status_numbers}
 
 -- ---- what a message asks of its key
 
@@ -107,3 +111,20 @@ fitting_in q p (Err refusal) = None
 abbrev pub key_chosen : Result Question CoseStatus → PermissionValue → List ℕ → Option Placed
 key_chosen (Ok q) p keys = fitting_in q p (whole 8 (record { bytes = keys; place = 0 }))
 key_chosen (Err status) p keys = None
+
+-- Of a message with these buckets, once both were found good.
+abbrev pub item_fitting : PermissionValue → List ℕ → Option Question → Option Placed
+item_fitting p keys (Some q) = key_chosen (Ok q) p keys
+item_fitting p keys None = None
+
+abbrev pub item_of_kind : CoseTerms → Option Kind → Option (List Pair) → Option (List Pair) → Option Placed
+item_of_kind terms (Some kind) protected unprotected = item_fitting (permission_stated terms) terms.keys.now (asked_by kind protected unprotected)
+item_of_kind terms None protected unprotected = None
+
+-- Terms of another version have no keys.
+abbrev pub item_under : CoseTerms → Option (List Pair) → Option (List Pair) → Option Placed
+item_under terms protected unprotected = if is_unknown terms then None else item_of_kind terms (kind_numbered terms.kind) protected unprotected
+
+-- And of the message that a verifier was fed so far.
+abbrev pub key_of_fed : {H D : ℕ} {S : Type 0} {K : _} → CoseTerms → Content H D S K → Option Placed
+key_of_fed terms content = item_under terms (bucket_by true content) (bucket_by false content)

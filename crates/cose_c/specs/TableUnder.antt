@@ -1,9 +1,6 @@
 -- A table that is read under terms: its keys, and what a message is verified under by it.
 use Rattle.std.specs.Prelude.{ℕ, true, false, List, length, take, map, Option, Some, None, Result, Ok, Err, if◌then◌else◌}
-use Rattle.cose_map.specs.declared.key_table.KeyTable.{KeyTable}
 use Rattle.cose_map.specs.Key.Value.{KeyValue}
-use Rattle.cose_map.specs.KeySet.{keys_of}
-use Rattle.cose_map.specs.KeyTable.{keys as keys_of_table, table_of}
 use Rattle.cose_map.specs.Label.View.{label_value}
 use Rattle.cose_map.specs.Map.Read.{Read}
 use Rattle.cose_msg.specs.Message.{Setting}
@@ -12,11 +9,12 @@ use Rattle.cose_c.specs.declared.held.table.HeldTable.{HeldTable}
 use Rattle.cose_c.specs.declared.key_set.CoseKeySet.{CoseKeySet}
 use Rattle.cose_c.specs.declared.numbers.CoseStatus.{CoseStatus}
 use Rattle.cose_c.specs.declared.stated.CoseTerms.{CoseTerms}
+use Rattle.cose_c.specs.declared.table.keys.TableKeys.{TableKeys}
 use Rattle.cose_c.specs.declared.table.kept.TableTerms.{TableTerms}
 use Rattle.cose_c.specs.KeySet.{no_key_set}
 use Rattle.cose_c.specs.Numbers.{plain_status}
-use Rattle.cose_c.specs.Permitted.{PermissionValue, permitted_in}
 use Rattle.cose_c.specs.Stated.{is_unknown, labels_stated, permission_stated, setting_among}
+use Rattle.cose_c.specs.Table.{keys_held, permitted_table}
 use Rattle.cose_c.specs.Terms.{kinds_given}
 
 -- What a message is verified under by these terms, with these keys in the place of theirs; or why none is.
@@ -24,10 +22,6 @@ abbrev pub setting_by_terms : CoseTerms → Read (List KeyValue) → Result Sett
 setting_by_terms terms keys =
     if is_unknown terms then Err (plain_status 12)
     else setting_among terms (labels_stated terms.understood) keys (kinds_given terms.aad.now terms.kind)
-
--- A table has room for 64 of the keys that are permitted.
-abbrev pub permitted_table : PermissionValue → List ℕ → Read (List KeyValue)
-permitted_table p bytes = table_of 64 (permitted_in p (keys_of bytes))
 
 abbrev pub setting_of_table : CoseTerms → Result Setting CoseStatus
 setting_of_table terms = setting_by_terms terms (permitted_table (permission_stated terms) terms.keys.now)
@@ -60,10 +54,10 @@ abbrev pub setting_in_table : Result TableTerms CoseStatus → List KeyValue →
 setting_in_table (Ok stated) keys = Ok (setting_with_keys stated keys)
 setting_in_table (Err status) keys = Err status
 
-abbrev pub setting_of_both : Option (KeyTable 64) → Option TableTerms → Result Setting CoseStatus
+abbrev pub setting_of_both : Option TableKeys → Option TableTerms → Result Setting CoseStatus
 setting_of_both None stated = Err (plain_status 10)
-setting_of_both (Some table) None = Err (plain_status 10)
-setting_of_both (Some table) (Some stated) = Ok (setting_with_keys stated (keys_of_table table))
+setting_of_both (Some keys) None = Err (plain_status 10)
+setting_of_both (Some keys) (Some stated) = Ok (setting_with_keys stated (keys_held keys))
 
 abbrev pub setting_kept : HeldTable → Result Setting CoseStatus
 setting_kept held = setting_of_both held.content held.stated

@@ -26,6 +26,9 @@ ghost use Rattle.cose_c.specs.PermittedView.{permission_value};
 ghost use Rattle.cose_c.specs.Stated.{permission_stated, setting_stated};
 ghost use Rattle.cose_c.specs.Stream.{status_numbers};
 
+mod fed;
+mod large;
+
 use crate::claims::{bytes_from, first_item};
 use crate::item::{CoseItem, no_item, numbers_of};
 use crate::numbers::{

@@ -134,7 +134,7 @@ impl Permits for Permission {
 }
 
 /// What permits each key.
-fn everything() -> Permission
+pub(crate) fn everything() -> Permission
     ensures { (key : KeyValue) → spec.permits (permission_value result) key ≡ true }
 {
     Permission {

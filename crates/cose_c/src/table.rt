@@ -1,6 +1,6 @@
 //! A table of keys in a block: it is read once, and many messages are verified under it.
 
-ghost use Rattle.std.specs.Prelude.{◌≡◌, ◌≤◌, true, IfOk, None, is_some, length};
+ghost use Rattle.std.specs.Prelude.{◌≡◌, ◌≤◌, true, IfOk, None, length};
 ghost use Rattle.cose_map.specs.KeySet.{keys_of};
 ghost use Rattle.cose_map.specs.KeyTable.{table_of};
 ghost use Rattle.cose_c.specs.Claims.{GivesToken, policy_given};
@@ -9,69 +9,46 @@ ghost use Rattle.cose_c.specs.KeySet.{key_set_numbers};
 ghost use Rattle.cose_c.specs.Message.{Covers, input_given, is_accepted, payload_given, verdict_given};
 ghost use Rattle.cose_c.specs.Table.{keys_in, keys_read, setting_under_table, table_settings};
 
+mod fill;
 pub(crate) mod kept;
+pub(crate) mod keys;
 mod under;
 
 use crate::claims::{CosePolicy, claims_of_token};
 use crate::cose_claims::{CoseClaims, no_claims};
-use crate::held::table::{CoseTable, TABLE};
+use crate::held::table::CoseTable;
 use crate::input::CoseSignInput;
-use crate::key_set::{CoseKeySet, counted, no_key_set};
+use crate::key_set::CoseKeySet;
 use crate::message::read_whole;
-use crate::numbers::{
-    CLOSED, CoseStatus, CoseVerdict, KEYS_REFUSED, no_message, plain_status, refused_status,
-};
+use crate::numbers::{CLOSED, CoseStatus, CoseVerdict, no_message, plain_status};
+use crate::permitted::everything;
+use crate::table::fill::fill;
+use crate::table::keys::TableKeys;
 use crate::terms::{HEADER, NESTING, PAYLOAD, kinds_wanted};
-use cose_msg::{Context, KeyTable, Verifier};
+use cose_msg::{Context, Verifier};
 
 /// What a message is verified under, by a table of keys, or why none is: a block that isn't read has no keys.
 fn context<'k>(
-    content: &'k Option<KeyTable<'k, TABLE>>,
+    content: &'k Option<TableKeys>,
     aad: &'k [u8],
     wanted: u8,
-) -> Result<Context<'k, &'k KeyTable<'k, TABLE>>, CoseStatus>
+) -> Result<Context<'k, &'k TableKeys>, CoseStatus>
     ensures setting { table_settings result
         ≡ setting_under_table (keys_in content.entry.now) aad.entry.now wanted }
     ensures external { IfOk result (λ context. length context.aad.now ≤ 65535) }
 {
-    let Some(table) = content else {
+    let Some(keys) = content else {
         return Err(plain_status(CLOSED));
     };
     let wanted = kinds_wanted(aad, wanted)?;
     Ok(Context {
-        keys: table,
+        keys,
         aad,
         wanted,
         cwt: true,
         understood: &[],
         payload_limit: PAYLOAD,
     })
-}
-
-/// Gives a block a table without keys. It is never inlined: what it takes of the stack is free again when the keys are read.
-#[inline(never)]
-pub(crate) fn begin(content: &mut Option<KeyTable<'static, TABLE>>)
-    ensures { is_some content.new ≡ true }
-{
-    *content = Some(KeyTable::new());
-}
-
-/// Gives a block the table of a key set, where the block is: no copy of the table is on the stack.
-fn fill(content: &mut Option<KeyTable<'static, TABLE>>, keys: &'static [u8]) -> CoseKeySet
-    ensures numbers { result ≡ key_set_numbers (table_of 64 (keys_of keys.now)) }
-    ensures keys { keys_in content.new ≡ keys_read (table_of 64 (keys_of keys.now)) }
-{
-    begin(content);
-    let Some(table) = content else {
-        unreachable!();
-    };
-    match table.fill(keys) {
-        Ok(()) => counted(table.count() as u64),
-        Err(refusal) => {
-            *content = None;
-            no_key_set(refused_status(KEYS_REFUSED, refusal))
-        }
-    }
 }
 
 /// Reads the usable keys of a key set, at most 64, each of them once. Where the set is refused, or has more usable keys, the block has
@@ -90,7 +67,7 @@ pub extern "C" fn cose_edge_table_read(
 {
     let held = table.lend();
     held.stated = None;
-    *key_set = fill(&mut held.content, keys);
+    *key_set = fill(&mut held.content, keys, &everything());
 }
 
 /// Verifies a message in memory under the table's keys, as `cose_verify` does under those of a key set. A block that isn't read answers
@@ -120,7 +97,7 @@ pub extern "C" fn cose_edge_table_verify(
 {
     *verdict = match context(&table.lend().content, aad, wanted) {
         Ok(context) => {
-            let mut verifier = Verifier::<HEADER, NESTING, &KeyTable<'_, TABLE>>::new(context);
+            let mut verifier = Verifier::<HEADER, NESTING, &TableKeys>::new(context);
             read_whole(&mut verifier, message, input)
         }
         Err(status) => no_message(status),
@@ -143,7 +120,7 @@ pub extern "C" fn cose_edge_table_verify_cwt(
 {
     *claims = match context(&table.lend().content, aad, 0) {
         Ok(context) => {
-            let mut verifier = Verifier::<HEADER, NESTING, &KeyTable<'_, TABLE>>::new(context);
+            let mut verifier = Verifier::<HEADER, NESTING, &TableKeys>::new(context);
             claims_of_token(&mut verifier, token, policy)
         }
         Err(status) => no_claims(status),

@@ -201,6 +201,10 @@ begin address
 edge_claim bytes i64 &cose_item
 edge_claim_named bytes bytes &cose_item
 edge_item_at bytes u64 &cose_item
+edge_fed_key_of &cose_verifier &cose_terms &cose_item
+edge_large_key_of &cose_terms bytes &cose_item
+edge_large_mismatch &cose_terms bytes u64 &cose_key_fit
+edge_large_fed_key_of &cose_large_verifier &cose_terms &cose_item
 edge_key_of &cose_terms bytes &cose_item
 edge_mismatch &cose_terms bytes u64 &cose_key_fit
 edge_read_keys bytes &cose_key_set

@@ -10,17 +10,14 @@ ghost use Rattle.cose_c.specs.declared.held.table.HeldTable.{HeldTable};
 ghost use Rattle.cose_c.specs.contracts.held.table.HeldTable.{the_row};
 
 use crate::table::kept::TableTerms;
-use cose_msg::KeyTable;
+use crate::table::keys::TableKeys;
 use std::marker::Model;
 use std::ptr;
-
-/// The most keys of a table.
-pub(crate) const TABLE: usize = 64;
 
 /// The value in a block: a table, once it is read, and the terms that it was read under, if any.
 #[derive(Drop)]
 pub struct HeldTable {
-    pub(crate) content: Option<KeyTable<'static, TABLE>>,
+    pub(crate) content: Option<TableKeys>,
     pub(crate) stated: Option<TableTerms>,
 }
 

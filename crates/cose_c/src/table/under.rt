@@ -3,30 +3,25 @@
 ghost use Rattle.std.specs.Prelude.{◌≡◌, ◌≤◌, Ok, true, IfOk, List, length};
 ghost use Rattle.cose_map.specs.Key.Value.{KeyValue};
 ghost use Rattle.cose_c.specs.Input.{GivesAll};
-ghost use Rattle.cose_c.specs.KeySet.{key_set_numbers};
 ghost use Rattle.cose_c.specs.Message.{Covers, input_given, is_accepted, payload_given, verdict_given};
-ghost use Rattle.cose_c.specs.PermittedView.{permission_value};
 ghost use Rattle.cose_c.specs.Required.{GivesRequired, required_stated, required_value};
-ghost use Rattle.cose_c.specs.Table.{keys_in, keys_read, table_settings};
-ghost use Rattle.cose_c.specs.TableUnder.{setting_by_terms, permitted_table, setting_in_table, setting_kept, setting_left, setting_of_table, table_numbers};
+ghost use Rattle.cose_c.specs.Table.{table_settings};
+ghost use Rattle.cose_c.specs.TableUnder.{setting_by_terms, setting_in_table, setting_kept, setting_left, setting_of_table, table_numbers};
 
 use crate::admit::claims_of_token;
 use crate::cose_claims::{CoseClaims, no_claims};
-use crate::held::table::{CoseTable, HeldTable, TABLE};
+use crate::held::table::{CoseTable, HeldTable};
 use crate::input::CoseSignInput;
-use crate::key_set::{CoseKeySet, counted, no_key_set};
+use crate::key_set::{CoseKeySet, no_key_set};
 use crate::message::read_whole;
-use crate::numbers::{
-    BAD_ARGUMENT, CLOSED, CoseStatus, CoseVerdict, KEYS_REFUSED, no_message, plain_status,
-    refused_status,
-};
-use crate::permitted::Permission;
+use crate::numbers::{BAD_ARGUMENT, CLOSED, CoseStatus, CoseVerdict, no_message, plain_status};
 use crate::required::{CoseRequirements, Required, required_by};
 use crate::stated::{CoseTerms, count_before_zero, is_known, labels_of, payload_limit, permission};
-use crate::table::begin;
+use crate::table::fill::fill;
 use crate::table::kept::TableTerms;
+use crate::table::keys::TableKeys;
 use crate::terms::{HEADER, NESTING, kinds_wanted};
-use cose_msg::{Context, KeyTable, Verifier};
+use cose_msg::{Context, Verifier};
 
 /// What terms state of a table's messages, or why they are refused. It is never inlined: what it takes of the stack is free again when
 /// the keys are read.
@@ -47,33 +42,9 @@ fn stated_by(terms: &CoseTerms<'static>) -> Result<TableTerms, CoseStatus>
     })
 }
 
-/// Gives a block the table of the keys of a set that are permitted, where the block is.
-fn fill(
-    content: &mut Option<KeyTable<'static, TABLE>>,
-    keys: &'static [u8],
-    permission: &Permission,
-) -> CoseKeySet
-    ensures numbers { result
-        ≡ key_set_numbers (permitted_table (permission_value permission.now) keys.now) }
-    ensures keys { keys_in content.new
-        ≡ keys_read (permitted_table (permission_value permission.now) keys.now) }
-{
-    begin(content);
-    let Some(table) = content else {
-        unreachable!();
-    };
-    match table.fill_permitted(keys, permission) {
-        Ok(()) => counted(table.count() as u64),
-        Err(refusal) => {
-            *content = None;
-            no_key_set(refused_status(KEYS_REFUSED, refusal))
-        }
-    }
-}
-
 /// What a message is verified under, by a table that was read under terms, or why none is.
 #[tactic(auto, using(crate::proofs::Labels::labels_taken))]
-fn context<'h>(held: &'h HeldTable) -> Result<Context<'h, &'h KeyTable<'h, TABLE>>, CoseStatus>
+fn context<'h>(held: &'h HeldTable) -> Result<Context<'h, &'h TableKeys>, CoseStatus>
     ensures setting { table_settings result ≡ setting_kept held.entry.now }
     ensures external { IfOk result (λ context. length context.aad.now ≤ 65535) }
 {
@@ -97,7 +68,7 @@ fn claims_under(held: &HeldTable, required: &Required<'_>, token: &[u8]) -> Cose
 {
     match context(held) {
         Ok(context) => {
-            let mut verifier = Verifier::<HEADER, NESTING, &KeyTable<'_, TABLE>>::new(context);
+            let mut verifier = Verifier::<HEADER, NESTING, &TableKeys>::new(context);
             claims_of_token(&mut verifier, token, required)
         }
         Err(status) => no_claims(status),
@@ -149,7 +120,7 @@ pub extern "C" fn cose_edge_table_authenticate(
 {
     *verdict = match context(table.lend()) {
         Ok(context) => {
-            let mut verifier = Verifier::<HEADER, NESTING, &KeyTable<'_, TABLE>>::new(context);
+            let mut verifier = Verifier::<HEADER, NESTING, &TableKeys>::new(context);
             read_whole(&mut verifier, message, input)
         }
         Err(status) => no_message(status),
