@@ -26,6 +26,7 @@ PROMISED = {
 LARGE_OVER_MEMORY = {
     *("cose_edge_large_verify", "cose_edge_large_verify_detached", "cose_edge_large_verify_cwt", "cose_edge_large_claims"),
     *("cose_edge_large_parameter", "cose_edge_large_parameter_named"),
+    *("cose_edge_large_key_of", "cose_edge_large_mismatch"),
     *("cose_edge_large_authenticate", "cose_edge_large_authenticate_detached", "cose_edge_large_admit", "cose_edge_large_admit_claims"),
 }
 OVER_MEMORY = {

@@ -1,7 +1,7 @@
 //! Which key of a set a message is verified with, and why a key isn't.
 
 use crate::error::number;
-use crate::{raw, Error, Item, Terms};
+use crate::{raw, Error, Item, Size, Small, Terms};
 
 /// A condition under which a key is the one that a message is verified with
 /// ([RFC 9052 section 7.1](https://www.rfc-editor.org/rfc/rfc9052#section-7.1)), in the order in which they are checked.
@@ -62,13 +62,7 @@ impl<'t> Terms<'t> {
     ///
     /// [`Error::BadArgument`] where the terms are out of their range.
     pub fn key_of(&self, message: &[u8]) -> Result<Option<Item<'t>>, Error> {
-        let (terms, mut key) = (self.raw()?, raw::Item::default());
-        // SAFETY: each pointer with its length is that of one slice, which is borrowed for the call, those of the terms too; the
-        // call keeps none of them, and writes to the struct, which is this function's own.
-        unsafe {
-            raw::cose_edge_key_of(&terms, message.as_ptr(), message.len(), &mut key);
-        }
-        Item::of(self.keys, key)
+        key_of_sized::<Small>(self, message)
     }
 
     /// The first condition that the key which is the item at this place of the key set fails for a message, and none where it fits.
@@ -78,14 +72,45 @@ impl<'t> Terms<'t> {
     ///
     /// The key set, that key or the message is refused, or no item is at the place.
     pub fn mismatch(&self, message: &[u8], place: u64) -> Result<Option<Mismatch>, Error> {
-        let (terms, mut fit) = (self.raw()?, raw::KeyFit::default());
-        // SAFETY: as of `key_of`.
-        unsafe {
-            raw::cose_edge_mismatch(&terms, message.as_ptr(), message.len(), place, &mut fit);
-        }
-        if fit.status != number::COMPLETE {
-            return Err(Error::of(fit.status, fit.reason, fit.place));
-        }
-        Mismatch::from_number(fit.condition)
+        mismatch_sized::<Small>(self, message, place)
     }
+}
+
+/// Which key a message is verified with: [`Terms::key_of`] is that of [`Small`].
+///
+/// # Errors
+///
+/// [`Error::BadArgument`] where the terms are out of their range.
+pub fn key_of_sized<'t, S: Size>(
+    terms: &Terms<'t>,
+    message: &[u8],
+) -> Result<Option<Item<'t>>, Error> {
+    let (raw_terms, mut key) = (terms.raw()?, raw::Item::default());
+    // SAFETY: each pointer with its length is that of one slice, which is borrowed for the call, those of the terms too; the call keeps
+    // none of them, and writes to the struct, which is this function's own.
+    unsafe {
+        (S::FUNCTIONS.key_of)(&raw_terms, message.as_ptr(), message.len(), &mut key);
+    }
+    Item::of(terms.keys, key)
+}
+
+/// The first condition that a key fails: [`Terms::mismatch`] is that of [`Small`].
+///
+/// # Errors
+///
+/// The key set, that key or the message is refused, or no item is at the place.
+pub fn mismatch_sized<S: Size>(
+    terms: &Terms<'_>,
+    message: &[u8],
+    place: u64,
+) -> Result<Option<Mismatch>, Error> {
+    let (terms, mut fit) = (terms.raw()?, raw::KeyFit::default());
+    // SAFETY: as of `key_of_sized`.
+    unsafe {
+        (S::FUNCTIONS.mismatch)(&terms, message.as_ptr(), message.len(), place, &mut fit);
+    }
+    if fit.status != number::COMPLETE {
+        return Err(Error::of(fit.status, fit.reason, fit.place));
+    }
+    Mismatch::from_number(fit.condition)
 }

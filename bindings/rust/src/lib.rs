@@ -81,7 +81,7 @@ pub use error::Error;
 #[cfg(feature = "std")]
 pub use io::{make, ReadError};
 pub use item::{Item, Items};
-pub use key_choice::Mismatch;
+pub use key_choice::{key_of_sized, mismatch_sized, Mismatch};
 pub use make::{MacAlg, Maker, MakerBlock, Making, HEAD_ROOM, TAIL_ROOM};
 pub use message::{
     shape, usable_keys, verify, verify_detached, verify_with, Kind, Message, Options, Shape,

@@ -449,6 +449,20 @@ impl<'k, S: Size> Verifier<'k, S> {
         }
     }
 
+    /// Which key of the terms' key set the message is verified with, as [`Terms::key_of`] says it, once both header buckets were found
+    /// good, until the verifier is reset. The terms say the kind of the message.
+    ///
+    /// # Errors
+    ///
+    /// [`Error::BadArgument`] where the terms are out of their range.
+    pub fn key_of<'t>(&mut self, terms: &Terms<'t>) -> Result<Option<Item<'t>>, Error> {
+        let (raw_terms, mut key) = (terms.raw()?, raw::Item::default());
+        // SAFETY: the block was begun, and each pointer of the terms with its length is that of one slice, which is borrowed for the
+        // call.
+        unsafe { (S::FUNCTIONS.fed_key_of)(&mut self.handle(), &raw_terms, &mut key) };
+        Item::of(terms.keys, key)
+    }
+
     /// Begins the next message, under the same keys.
     pub fn reset(&mut self) {
         // SAFETY: the block was begun.

@@ -4,6 +4,7 @@ mod adapter;
 mod eddsa;
 mod items;
 mod json;
+mod key_choice;
 mod messages;
 mod parameters;
 mod pieces;
