@@ -1,6 +1,6 @@
 -- A table of keys in a block, which is there once it is read.
 use Rattle.std.specs.Borrow.{Bor}
-use Rattle.std.specs.Prelude.{ℕ, Bool, true, false, List, Option, Some, None, Result, Ok, Err, option_map}
+use Rattle.std.specs.Prelude.{ℕ, List, Option, Some, None, Result, Ok, Err, option_map}
 use Rattle.cose_map.specs.Key.Value.{KeyValue}
 use Rattle.cose_map.specs.KeySet.{keys_of}
 use Rattle.cose_map.specs.KeyTable.{keys as keys_of_table, table_of}
@@ -21,21 +21,19 @@ abbrev pub keys_held : TableKeys → List KeyValue
 keys_held (Few table) = prepared_keys table
 keys_held (Many table) = keys_of_table table
 
-abbrev pub is_few : Option TableKeys → Bool
-is_few (Some (Few table)) = true
-is_few (Some (Many table)) = false
-is_few None = false
+-- How many keys there is room for.
+abbrev pub room_of : TableKeys → ℕ
+room_of (Few table) = 8
+room_of (Many table) = 64
 
-abbrev pub is_many : Option TableKeys → Bool
-is_many (Some (Few table)) = false
-is_many (Some (Many table)) = true
-is_many None = false
+abbrev pub room_in : Option TableKeys → Option ℕ
+room_in content = option_map room_of content
 
 -- None where the block isn't read.
 abbrev pub keys_in : Option TableKeys → Option (List KeyValue)
 keys_in content = option_map keys_held content
 
--- A table has room for 64 of the keys that are permitted, of which 8 are few.
+-- The keys that are permitted, of which a table has room for 64, and 8 are few.
 abbrev pub permitted_table : PermissionValue → List ℕ → Read (List KeyValue)
 permitted_table p bytes = table_of 64 (permitted_in p (keys_of bytes))
 

@@ -1,6 +1,6 @@
 //! The key of a message whose header buckets have at most 65,535 bytes, nested at most 16 deep.
 
-ghost use Rattle.std.specs.Prelude.{◌≡◌, ℕ, ℤ, ◌×◌, true, false, List, Ok, Some, option_and_then};
+ghost use Rattle.std.specs.Prelude.{◌≡◌, ℕ, ℤ, true, false, List, Ok, Some, option_and_then};
 ghost use Rattle.cose_map.specs.Choice.{Question, chosen};
 ghost use Rattle.cose_map.specs.Key.Value.{KeyValue};
 ghost use Rattle.cose_map.specs.KeySet.{keys_of, usable};

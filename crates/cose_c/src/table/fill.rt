@@ -4,7 +4,7 @@ ghost use Rattle.std.specs.Prelude.{◌≡◌, List, Ok, Some, length, option_ma
 ghost use Rattle.cose_map.specs.Key.Value.{KeyValue};
 ghost use Rattle.cose_c.specs.KeySet.{key_set_numbers};
 ghost use Rattle.cose_c.specs.PermittedView.{permission_value};
-ghost use Rattle.cose_c.specs.Table.{few_permitted, is_few, is_many, keys_in, keys_read, permitted_table};
+ghost use Rattle.cose_c.specs.Table.{few_permitted, keys_in, keys_read, permitted_table, room_in};
 
 use crate::key_set::{CoseKeySet, counted, no_key_set};
 use crate::numbers::{KEYS_REFUSED, refused_status};
@@ -15,7 +15,7 @@ use cose_map::{KeyTable, PreparedTable};
 /// Gives a block a table without keys. It is never inlined: what it takes of the stack is free again when the keys are read.
 #[inline(never)]
 fn begin_few(content: &mut Option<TableKeys>)
-    ensures { is_few content.new ≡ true }
+    ensures { room_in content.new ≡ Some 8 }
 {
     *content = Some(TableKeys::Few(PreparedTable::empty()));
 }
@@ -23,7 +23,7 @@ fn begin_few(content: &mut Option<TableKeys>)
 /// The same for many keys.
 #[inline(never)]
 fn begin_many(content: &mut Option<TableKeys>)
-    ensures { is_many content.new ≡ true }
+    ensures { room_in content.new ≡ Some 64 }
 {
     *content = Some(TableKeys::Many(KeyTable::new()));
 }
@@ -42,10 +42,10 @@ fn fill_few(
         → keys_in content.new ≡ Some found }
 {
     begin_few(content);
-    let Some(TableKeys::Few(table)) = content else {
+    let Some(table) = content else {
         unreachable!();
     };
-    match table.fill_permitted(keys, permission) {
+    match table.fill(keys, permission) {
         Ok(()) => Some(table.count() as u64),
         Err(_) => None,
     }
@@ -63,10 +63,10 @@ fn fill_many(
         ≡ keys_read (permitted_table (permission_value permission.now) keys.now) }
 {
     begin_many(content);
-    let Some(TableKeys::Many(table)) = content else {
+    let Some(table) = content else {
         unreachable!();
     };
-    match table.fill_permitted(keys, permission) {
+    match table.fill(keys, permission) {
         Ok(()) => counted(table.count() as u64),
         Err(refusal) => {
             *content = None;

@@ -1,6 +1,7 @@
 use Rattle.std.proofs.Common.{◌∙◌, ap, sym}
 use Rattle.cose_c.specs.Stated.{permission_stated}
-use Rattle.cose_c.specs.TableUnder.{permitted_table, setting_left, table_numbers}
+use Rattle.cose_c.specs.Table.{permitted_table}
+use Rattle.cose_c.specs.TableUnder.{setting_left, table_numbers}
 use Rattle.cose_c.proofs.TablesUnder.{kept_good, numbers_good, refused}
 use Rattle.cose_c.proofs.table.under.cose_edge_table_read_under.Goals as goal
 
