@@ -64,12 +64,15 @@ HOLDING = {
     "cose_c::message::verify_large_detached",
     "cose_c::stream::open",
     "cose_c::stream::open_detached",
-    "cose_c::table::fill::begin_few",
-    "cose_c::table::fill::begin_many",
     "cose_mac::hasher::Hasher::finish",
     "cose_map::bucket::both::least_of_elements_in_any_order",
     "cose_map::bucket::both::with_unprotected_in_any_order",
     "cose_map::map::read::check_in_any_order",
+}
+# what makes a table: for speed, since the compiler then makes it where it stays
+MADE_IN_PLACE = {
+    "cose_c::table::fill::begin_few",
+    "cose_c::table::fill::begin_many",
 }
 EXPORTED = "cose_"
 # what takes most of the time stays as it is made for speed, but that a step, and four of them, are in one place and not in several
@@ -115,6 +118,8 @@ class Inlining:
             return "inlined"
         if plain in OUT_OF_LINE:
             return "out of line"
+        if plain in MADE_IN_PLACE:
+            return None
         if plain in STEPS:
             return "plain out of line"
         if plain.startswith(HASHING):

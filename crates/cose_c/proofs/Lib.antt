@@ -22,6 +22,7 @@ pub mod Strings
 pub mod TablesFilled
 pub mod TablesUnder
 pub mod Tails
+pub mod TokensForC
 pub mod Wider
 pub mod WorkedStated
 pub mod WorkedTerms

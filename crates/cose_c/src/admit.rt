@@ -1,28 +1,23 @@
 //! A token in memory, by one call, under what a caller states and requires in one struct each, and the claims of a payload.
 
-ghost use Rattle.std.specs.Prelude.{◌≡◌, ◌≢◌, ◌≤◌, ℕ, Ok, [], false, drop, take};
-ghost use Rattle.cose_msg.specs.Kept.{HasTaken, is_inspecting};
-ghost use Rattle.cose_msg.specs.Task.{to_verify};
-ghost use Rattle.cose_msg.specs.Verifier.{is_detached, setting_in};
+ghost use Rattle.std.specs.Prelude.{◌≡◌, ◌≢◌, ◌≤◌, ℕ, Ok, drop, take};
 ghost use Rattle.cose_cwt.specs.Claims.{claims_of};
 ghost use Rattle.cose_cwt.specs.Claims.View.{claims_value};
 ghost use Rattle.cose_cwt.specs.Requirements.{met};
 ghost use Rattle.cose_c.specs.Claims.{Gives, GivesAlone, status_in};
 ghost use Rattle.cose_c.specs.CoseClaims.{no_claims};
-ghost use Rattle.cose_c.specs.Required.{GivesRequired, GivesRequiredIn, claims_meeting, claims_required, required_stated, required_value, unless_unmet};
+ghost use Rattle.cose_c.specs.Required.{GivesRequired, claims_meeting, claims_required, required_stated, required_value, unless_unmet};
 ghost use Rattle.cose_c.specs.Stated.{setting_stated};
 
+use crate::authenticate::authenticated;
 use crate::claims::{admitted, bytes_before, bytes_from, claims_for_c, placed_claims, status_of};
 use crate::cose_claims::{CoseClaims, no_claims};
 use crate::input::blank_input;
-use crate::message::read_whole;
 use crate::numbers::{AUTHENTIC, CLAIMS_REFUSED, CoseVerdict, refused_status};
-use crate::permitted::PermittedKeys;
 use crate::required::{CoseRequirements, Required, required_by, unmet_status};
-use crate::stated::{CoseTerms, context, labels_of};
+use crate::stated::CoseTerms;
 use crate::terms::{HEADER, LARGE_HEADER, LARGE_NESTING, NESTING};
 use cose_cwt::Claims;
-use cose_msg::{Keys, Verifier};
 
 /// The claims of a payload, which are admitted, where they meet what is required.
 fn claims_met(claims: &Claims<'_>, payload: &[u8], required: &Required<'_>) -> CoseClaims
@@ -70,7 +65,7 @@ fn claims_required(payload: &[u8], depth: usize, requirements: &CoseRequirements
 /// The claims of a token whose verdict is known. It is never inlined: what it takes of the stack is free while the message is read.
 #[inline(never)]
 #[tactic(auto, using(crate::proofs::ClaimsForC::gives_at_any_place))]
-fn claims_after(
+pub(crate) fn claims_after(
     verdict: CoseVerdict,
     token: &[u8],
     depth: usize,
@@ -97,54 +92,21 @@ fn claims_after(
     placed_claims(claims, verdict.payload_at, verdict.payload_length)
 }
 
-/// The claims of a token, by a verifier that has taken none of it.
-pub(crate) fn claims_of_token<'k, const H: usize, const D: usize, K: Keys<'k>>(
-    verifier: &mut Verifier<'k, H, D, K>,
-    token: &[u8],
+/// The claims of a token under terms, by a verifier of either size.
+fn claims_under<const H: usize, const D: usize>(
+    terms: &CoseTerms<'_>,
     required: &Required<'_>,
+    token: &[u8],
 ) -> CoseClaims
+    requires some_room { 16 ≤ H }
+    requires limit { H ≤ 65535 }
     requires nesting { D ≤ 32 }
-    requires verifies { is_inspecting verifier.old ≡ false }
-    requires attached { is_detached verifier.old ≡ false }
-    requires fresh { HasTaken (to_verify (setting_in verifier.old)) [] [] verifier.old }
-    ensures { GivesRequiredIn H D (setting_in verifier.old) (required_value required.entry.now)
-        token.now result }
+    ensures { GivesRequired H D (setting_stated terms.entry.now)
+        (Ok (required_value required.entry.now)) token.now result }
 {
     let mut input = blank_input();
-    let verdict = read_whole(verifier, token, &mut input);
+    let verdict = authenticated::<H, D>(terms, token, &mut input);
     claims_after(verdict, token, D, required)
-}
-
-/// The claims of a token under terms.
-fn claims_under(terms: &CoseTerms<'_>, required: &Required<'_>, token: &[u8]) -> CoseClaims
-    ensures { GivesRequired 1024 8 (setting_stated terms.entry.now)
-        (Ok (required_value required.entry.now)) token.now result }
-{
-    let labels = labels_of(&terms.understood);
-    match context(terms, &labels) {
-        Ok(context) => {
-            let mut verifier = Verifier::<HEADER, NESTING, PermittedKeys<'_>>::new(context);
-            claims_of_token(&mut verifier, token, required)
-        }
-        Err(status) => no_claims(status),
-    }
-}
-
-/// The same for headers of 65,535 bytes, where headers and claims nest 16 deep.
-fn large_claims_under(terms: &CoseTerms<'_>, required: &Required<'_>, token: &[u8]) -> CoseClaims
-    ensures { GivesRequired 65535 16 (setting_stated terms.entry.now)
-        (Ok (required_value required.entry.now)) token.now result }
-{
-    let labels = labels_of(&terms.understood);
-    match context(terms, &labels) {
-        Ok(context) => {
-            let mut verifier = Verifier::<LARGE_HEADER, LARGE_NESTING, PermittedKeys<'_>>::new(
-                context,
-            );
-            claims_of_token(&mut verifier, token, required)
-        }
-        Err(status) => no_claims(status),
-    }
 }
 
 /// Verifies a token in memory under terms, and reads its claims where they meet requirements (RFC 8392 section 7.2): the bytes are the
@@ -163,7 +125,7 @@ pub extern "C" fn cose_edge_admit(
         (required_stated requirements.entry.now) token.now claims.new }
 {
     *claims = match required_by(requirements) {
-        Ok(required) => claims_under(terms, &required, token),
+        Ok(required) => claims_under::<HEADER, NESTING>(terms, &required, token),
         Err(status) => no_claims(status),
     };
 }
@@ -180,7 +142,7 @@ pub extern "C" fn cose_edge_large_admit(
         (required_stated requirements.entry.now) token.now claims.new }
 {
     *claims = match required_by(requirements) {
-        Ok(required) => large_claims_under(terms, &required, token),
+        Ok(required) => claims_under::<LARGE_HEADER, LARGE_NESTING>(terms, &required, token),
         Err(status) => no_claims(status),
     };
 }

@@ -13,8 +13,10 @@ use crate::stated::{CoseTerms, context, labels_of};
 use crate::terms::{HEADER, LARGE_HEADER, LARGE_NESTING, NESTING};
 use cose_msg::Verifier;
 
-/// Verifies a message in memory under terms, by a verifier of either size.
-fn authenticated<const H: usize, const D: usize>(
+/// Verifies a message in memory under terms, by a verifier of either size. It is never inlined: the verifier isn't on the stack any more
+/// when the claims of a token are read.
+#[inline(never)]
+pub(crate) fn authenticated<const H: usize, const D: usize>(
     terms: &CoseTerms<'_>,
     message: &[u8],
     input: &mut CoseSignInput,

@@ -8,16 +8,13 @@ ghost use Rattle.cose_map.specs.KeySet.{keys_of};
 ghost use Rattle.cose_map.specs.Map.Pairs.{value_of};
 ghost use Rattle.cose_map.specs.Map.Read.{check_map};
 ghost use Rattle.cose_map.specs.Map.View.{pairs_left, seen_by};
-ghost use Rattle.cose_msg.specs.Kept.{HasTaken, is_inspecting};
-ghost use Rattle.cose_msg.specs.Task.{to_verify};
-ghost use Rattle.cose_msg.specs.Verifier.{is_detached, setting_in};
 ghost use Rattle.cose_cwt.specs.Admission.{admitted_claims};
 ghost use Rattle.cose_cwt.specs.Admission.View.{policy_value};
 ghost use Rattle.cose_cwt.specs.Claims.{auds_of, claims_of, texts_at, texts_from};
 ghost use Rattle.cose_cwt.specs.Claims.Labels as names;
 ghost use Rattle.cose_cwt.specs.Claims.Audience.{text_value};
 ghost use Rattle.cose_cwt.specs.Claims.View.{claims_value};
-ghost use Rattle.cose_c.specs.Claims.{Gives, GivesAlone, GivesAudience, GivesClaims, GivesToken, GivesTokenIn, claims_given, name_given, name_seen, policy_for, policy_given, status_in, unless_refused};
+ghost use Rattle.cose_c.specs.Claims.{Gives, GivesAlone, GivesAudience, GivesClaims, GivesToken, claims_given, name_given, name_seen, policy_for, policy_given, status_in, unless_refused};
 ghost use Rattle.cose_c.specs.Terms.{setting_given};
 ghost use Rattle.cose_c.specs.CoseClaims.{EndsIn, LiesIn, Ranges, StartsInside, any_value, audience_item, confirmed_curve, confirmed_sign, curve_number, element_numbered, first_in, no_claims, sign_number, no_range, text_at, text_numbered, text_range};
 
@@ -25,18 +22,19 @@ use crate::cose_claims::{
     CoseClaims, CoseRange, bytes_range, date_in, no_claims, no_range, text_range,
 };
 use crate::input::blank_input;
-use crate::message::read_whole;
+use crate::message::{cose_edge_large_verify, cose_edge_verify};
 use crate::numbers::{
-    AUTHENTIC, BAD_AUDIENCE, CLAIMS_REFUSED, CoseStatus, CoseVerdict, plain_status, refused_status,
+    AUTHENTIC, BAD_AUDIENCE, CLAIMS_REFUSED, CoseStatus, CoseVerdict, MORE, no_message,
+    plain_status, refused_status,
 };
-use crate::terms::{HEADER, LARGE_HEADER, LARGE_NESTING, NESTING, context};
+use crate::terms::{LARGE_NESTING, NESTING};
 use cose_cwt::laws::claims_are_of_a_tree;
 use cose_cwt::{Audience, Claims, Policy};
 use cose_head::laws::children_are_of_tree;
 use cose_head::read_item;
 use cose_map::laws::refusals_stand_inside;
 use cose_map::{Form, ItemRef, Items, Key, Label, Material, Pairs, Reason, Y, check_map};
-use cose_msg::{Keys, Refusal, Verifier};
+use cose_msg::Refusal;
 use std::slice;
 
 /// The labels of the members of a confirmation (RFC 8747 section 7.2).
@@ -494,9 +492,10 @@ pub(crate) fn placed_claims(claims: CoseClaims, at: u64, length: u64) -> CoseCla
     placed
 }
 
-/// The claims of a token whose verdict is known.
+/// The claims of a token whose verdict is known. It is never inlined: what it takes of the stack is free while the message is read.
+#[inline(never)]
 #[tactic(auto, using(crate::proofs::ClaimsForC::gives_at_any_place))]
-fn claims_after(
+pub(crate) fn claims_after(
     verdict: CoseVerdict,
     token: &[u8],
     depth: usize,
@@ -523,24 +522,6 @@ fn claims_after(
     placed_claims(claims, verdict.payload_at, verdict.payload_length)
 }
 
-/// The claims of a token, by a verifier that has taken none of it.
-pub(crate) fn claims_of_token<'k, const H: usize, const D: usize, K: Keys<'k>>(
-    verifier: &mut Verifier<'k, H, D, K>,
-    token: &[u8],
-    policy: &CosePolicy<'_>,
-) -> CoseClaims
-    requires nesting { D ≤ 32 }
-    requires verifies { is_inspecting verifier.old ≡ false }
-    requires attached { is_detached verifier.old ≡ false }
-    requires fresh { HasTaken (to_verify (setting_in verifier.old)) [] [] verifier.old }
-    ensures { GivesTokenIn H D (setting_in verifier.old) (policy_given policy.entry.now) token.now
-        result }
-{
-    let mut input = blank_input();
-    let verdict = read_whole(verifier, token, &mut input);
-    claims_after(verdict, token, D, policy)
-}
-
 /// Verifies a token in memory and reads its claims (RFC 8392 section 7.2): the bytes are the token, and nothing follows it.
 ///
 /// Where the token is a COSE_Sign1 the status is [`SIGNED`](crate::numbers::SIGNED), and no claims are returned: verify it with
@@ -556,13 +537,9 @@ pub extern "C" fn cose_edge_verify_cwt(
     ensures { GivesToken 1024 8 (setting_given (keys_of keys.now) aad.now 0)
         (policy_given policy.entry.now) token.now claims.new }
 {
-    *claims = match context(keys, aad, 0) {
-        Ok(context) => {
-            let mut verifier = Verifier::<HEADER, NESTING>::new(context);
-            claims_of_token(&mut verifier, token, policy)
-        }
-        Err(status) => no_claims(status),
-    };
+    let (mut verdict, mut input) = (no_message(plain_status(MORE)), blank_input());
+    cose_edge_verify(keys, aad, 0, token, &mut verdict, &mut input);
+    *claims = claims_after(verdict, token, NESTING, policy);
 }
 
 /// The same for headers of 65,535 bytes, where headers and claims nest 16 deep.
@@ -577,13 +554,9 @@ pub extern "C" fn cose_edge_large_verify_cwt(
     ensures { GivesToken 65535 16 (setting_given (keys_of keys.now) aad.now 0)
         (policy_given policy.entry.now) token.now claims.new }
 {
-    *claims = match context(keys, aad, 0) {
-        Ok(context) => {
-            let mut verifier = Verifier::<LARGE_HEADER, LARGE_NESTING>::new(context);
-            claims_of_token(&mut verifier, token, policy)
-        }
-        Err(status) => no_claims(status),
-    };
+    let (mut verdict, mut input) = (no_message(plain_status(MORE)), blank_input());
+    cose_edge_large_verify(keys, aad, 0, token, &mut verdict, &mut input);
+    *claims = claims_after(verdict, token, LARGE_NESTING, policy);
 }
 
 /// Reads the claims of a payload that is known to be authentic, such as that of a COSE_Sign1 whose signature is good.

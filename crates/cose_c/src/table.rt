@@ -14,13 +14,13 @@ pub(crate) mod kept;
 pub(crate) mod keys;
 mod under;
 
-use crate::claims::{CosePolicy, claims_of_token};
-use crate::cose_claims::{CoseClaims, no_claims};
+use crate::claims::{CosePolicy, claims_after};
+use crate::cose_claims::CoseClaims;
 use crate::held::table::CoseTable;
-use crate::input::CoseSignInput;
+use crate::input::{CoseSignInput, blank_input};
 use crate::key_set::CoseKeySet;
 use crate::message::read_whole;
-use crate::numbers::{CLOSED, CoseStatus, CoseVerdict, no_message, plain_status};
+use crate::numbers::{CLOSED, CoseStatus, CoseVerdict, MORE, no_message, plain_status};
 use crate::permitted::everything;
 use crate::table::fill::fill;
 use crate::table::keys::TableKeys;
@@ -118,11 +118,7 @@ pub extern "C" fn cose_edge_table_verify_cwt(
         (policy_given policy.entry.now) token.now claims.new }
     ensures same { table.new.value ≡ table.old.value }
 {
-    *claims = match context(&table.lend().content, aad, 0) {
-        Ok(context) => {
-            let mut verifier = Verifier::<HEADER, NESTING, &TableKeys>::new(context);
-            claims_of_token(&mut verifier, token, policy)
-        }
-        Err(status) => no_claims(status),
-    };
+    let (mut verdict, mut input) = (no_message(plain_status(MORE)), blank_input());
+    cose_edge_table_verify(table, aad, 0, token, &mut verdict, &mut input);
+    *claims = claims_after(verdict, token, NESTING, policy);
 }

@@ -40,7 +40,7 @@ fn place(found: Result<Option<Item<'_>>, Error>) -> Option<u64> {
 
 fn is_known_from_the_headers_on<S: Size>(block: &mut S::Block) {
     let terms = terms(Wanted::Mac0);
-    let mut verifier = Verifier::<S>::open(block, KEYS, &Options::default()).expect("good keys");
+    let mut verifier = Verifier::<S>::open_under(block, &terms).expect("good terms");
     assert_eq!(place(verifier.key_of(&terms)), None);
     let _ = verifier.feed(&MESSAGE[..6]).expect("the message's front");
     assert_eq!(place(verifier.key_of(&terms)), None);
@@ -63,7 +63,7 @@ fn of_a_fed_message() {
 #[test]
 fn of_no_message_of_another_kind() {
     let mut block = Block::default();
-    let mut verifier = Verifier::new(&mut block, KEYS, &Options::default()).expect("good keys");
+    let mut verifier = Verifier::under(&mut block, &terms(Wanted::Mac0)).expect("good terms");
     let _ = verifier.feed(MESSAGE).expect("the whole message");
     for wanted in [Wanted::Tagged, Wanted::Sign1] {
         assert_eq!(place(verifier.key_of(&terms(wanted))), None);

@@ -4,18 +4,20 @@ ghost use Rattle.std.specs.Prelude.{◌≡◌, ◌≤◌, Ok, true, IfOk, List, 
 ghost use Rattle.cose_map.specs.Key.Value.{KeyValue};
 ghost use Rattle.cose_c.specs.Input.{GivesAll};
 ghost use Rattle.cose_c.specs.Message.{Covers, input_given, is_accepted, payload_given, verdict_given};
-ghost use Rattle.cose_c.specs.Required.{GivesRequired, required_stated, required_value};
+ghost use Rattle.cose_c.specs.Required.{GivesRequired, required_stated};
 ghost use Rattle.cose_c.specs.Table.{table_settings};
 ghost use Rattle.cose_c.specs.TableUnder.{setting_by_terms, setting_in_table, setting_kept, setting_left, setting_of_table, table_numbers};
 
-use crate::admit::claims_of_token;
+use crate::admit::claims_after;
 use crate::cose_claims::{CoseClaims, no_claims};
 use crate::held::table::{CoseTable, HeldTable};
-use crate::input::CoseSignInput;
+use crate::input::{CoseSignInput, blank_input};
 use crate::key_set::{CoseKeySet, no_key_set};
 use crate::message::read_whole;
-use crate::numbers::{BAD_ARGUMENT, CLOSED, CoseStatus, CoseVerdict, no_message, plain_status};
-use crate::required::{CoseRequirements, Required, required_by};
+use crate::numbers::{
+    BAD_ARGUMENT, CLOSED, CoseStatus, CoseVerdict, MORE, no_message, plain_status,
+};
+use crate::required::{CoseRequirements, required_by};
 use crate::stated::{CoseTerms, count_before_zero, is_known, labels_of, payload_limit, permission};
 use crate::table::fill::fill;
 use crate::table::kept::TableTerms;
@@ -59,20 +61,6 @@ fn context<'h>(held: &'h HeldTable) -> Result<Context<'h, &'h TableKeys>, CoseSt
         understood: &stated.labels[..stated.understood],
         payload_limit: stated.payload_limit,
     })
-}
-
-/// The claims of a token under the terms of a table.
-fn claims_under(held: &HeldTable, required: &Required<'_>, token: &[u8]) -> CoseClaims
-    ensures { GivesRequired 1024 8 (setting_kept held.now) (Ok (required_value required.entry.now))
-        token.now result }
-{
-    match context(held) {
-        Ok(context) => {
-            let mut verifier = Verifier::<HEADER, NESTING, &TableKeys>::new(context);
-            claims_of_token(&mut verifier, token, required)
-        }
-        Err(status) => no_claims(status),
-    }
 }
 
 /// Reads the keys of the terms that they permit, at most 64, each of them once, and keeps the terms. Where the
@@ -141,7 +129,11 @@ pub extern "C" fn cose_edge_table_admit(
     ensures same { table.new.value ≡ table.old.value }
 {
     *claims = match required_by(requirements) {
-        Ok(required) => claims_under(table.lend(), &required, token),
+        Ok(required) => {
+            let (mut verdict, mut input) = (no_message(plain_status(MORE)), blank_input());
+            cose_edge_table_authenticate(table, token, &mut verdict, &mut input);
+            claims_after(verdict, token, NESTING, &required)
+        }
         Err(status) => no_claims(status),
     };
 }

@@ -1,0 +1,11 @@
+use Rattle.cose_map.specs.KeySet.{keys_of}
+use Rattle.cose_c.specs.Claims.{policy_given}
+use Rattle.cose_c.specs.Terms.{setting_given}
+use Rattle.cose_c.proofs.TokensForC.{of_arguments, token_given}
+use Rattle.cose_c.proofs.claims.cose_edge_large_verify_cwt.Goals as goal
+
+pub returns : goal.returns
+returns c =
+    let keys = keys_of c.args.keys.now in
+    token_given 65535 16 c.args.token.now _ _ (setting_given keys c.args.aad.now 0) (policy_given c.args.policy.now) c.cose_edge_large_verify.ensures.verdict c.cose_edge_large_verify.ensures.payload
+    (of_arguments keys c.args.aad.now 0) c.claims_after.ensures.other c.claims_after.ensures.admitted c.claims_after.ensures.place c.claims_after.ensures.count
