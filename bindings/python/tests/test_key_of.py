@@ -132,9 +132,10 @@ class Fed(unittest.TestCase):
     def test_refused(self) -> None:
         """A message that was refused has a key, and its kind isn't known."""
         with cose.Verifier(KEYS) as verifier:
-            verifier.feed(FORGED)
-            with self.assertRaises(cose.Refused):
-                verifier.verdict()
+            for call in (lambda: verifier.feed(FORGED), verifier.verdict):
+                with self.assertRaises(cose.Refused) as raised:
+                    call()
+                self.assertEqual(raised.exception.reason, Reason.BadAuth)
             self.assertEqual(verifier.key_of(SET, wanted=Kind.MAC0), CHOSEN)
             with self.assertRaisesRegex(ValueError, "wanted isn't stated"):
                 verifier.key_of(SET)
