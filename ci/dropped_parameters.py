@@ -41,6 +41,18 @@ def arguments(call, names, lines, after, nothing):
         yield f"stated, {call}: {name}", lines + after, lost + after
 
 
+# those of choosing.py and verifier.py about keys, which three calls pass on by their places
+OF_KEYS = {"algorithms": "None", "least_secret": "0", "short_mac": "False", "without_alg": "False"}
+
+
+def of_keys(call, kind, after):
+    """The losses of each of the arguments about keys, and of the kind, that a call passes on before what follows there alone."""
+    line = f"terms_of(secrets, {kind}, {', '.join(OF_KEYS)})\n{after}"
+    for name, nothing in {kind: "None", **OF_KEYS}.items():
+        yield f"stated, {call}: {name}", line, line.replace(f" {name}", f" {nothing}", 1)
+
+
+KIND_AND_SIZE = "_kind_of(data, wanted, large), _library.large if large else small"
 SIGNED_ADMIT = "return claims_under(requirements, _message(terms, data, None, ecdsa, large).payload, large)"
 OF_MESSAGE = "return _message(terms, data, content, ecdsa, large)"
 # the same of terms_table.py, which has them in a class
@@ -109,6 +121,16 @@ PYTHON = losses_of(
             ("stated, admit: large of a signed token", SIGNED_ADMIT, SIGNED_ADMIT.replace("ecdsa, large", "ecdsa, False")),
             ("stated, admit: large claims of a signed token", SIGNED_ADMIT, SIGNED_ADMIT.replace("payload, large)", "payload, False)")),
         ],
+        "choosing.py": [
+            *of_keys("key_of", "kind", "    calls = "),
+            *of_keys("mismatches", "kind", "    found: "),
+            ("stated, key_of: wanted", "_kind_of(data, wanted, large), data_of(keys)", "_kind_of(data, None, large), data_of(keys)"),
+            ("stated, key_of: large of the kind", "_kind_of(data, wanted, large), data_of(keys)", "_kind_of(data, wanted, False), data_of(keys)"),
+            ("stated, key_of: large", "calls = _library.large if large else small\n", "calls = small\n"),
+            ("stated, mismatches: wanted", KIND_AND_SIZE, KIND_AND_SIZE.replace("wanted", "None")),
+            ("stated, mismatches: large of the kind", KIND_AND_SIZE, KIND_AND_SIZE.replace("large)", "False)")),
+            ("stated, mismatches: large", KIND_AND_SIZE, KIND_AND_SIZE.replace("_library.large if large else small", "small")),
+        ],
         "terms_table.py": [
             *arguments("TermsTable", TERMS, IN_CLASS["terms"], "        # the memory", NOT_STATED),
             *arguments("TermsTable.admit", REQUIRED, IN_CLASS["required"], "        required = ", NOT_REQUIRED),
@@ -142,6 +164,10 @@ PYTHON = losses_of(
             ("stated, protected of a verifier: the bucket", "return self._parameter(label, 1)", "return self._parameter(label, 0)"),
             ("stated, unprotected of a verifier: the bucket", "return self._parameter(label, 0)", "return self._parameter(label, 1)"),
             ("stated, parameters of a verifier: large", "65_535 if self._is_large else 1_024", "1_024"),
+            *of_keys("key_of of a verifier", "wanted", "        # one use"),
+            ("stated, key_of of a verifier: wanted of the verifier", "self._wanted = self._kind = wanted_of(wanted)", "self._wanted = self._kind = 0"),
+            ("stated, key_of of a verifier: the kind of the verdict", "self._kind = verdict.kind or self._kind", "pass"),
+            ("stated, key_of of a verifier: the kind of the next message", "self._kind = self._wanted\n\n    @property", "pass\n\n    @property"),
             ("Verifier: large of feed", "self._is_large, data)", "False, data)"),
             ("feed: used", "return Fed(used,", "return Fed(len(data),"),
             ("feed_payload: used", "return used\n\n    def end", "return len(data)\n\n    def end"),
@@ -163,6 +189,9 @@ IS_GOOD = "if (await isGoodSignature(input, sigStructure(protectedOf(message), a
 UNDER = "this.authenticate(keys, message, terms)"
 IN_TABLE = "this.admit(token, { ...others, now })"
 SIGNED_IN_TABLE = "this.authenticPayload(token), { ...others, now })"
+KEY_OF = "STATED.terms(this, scope, keys, terms), ...scope.put(message), at);"
+MISMATCH = "STATED.terms(this, scope, keys, terms), ...scope.put(message), BigInt(place), at);"
+FED_KEY_OF = "UNDER.terms(this.cose, scope, keys, terms), at);"
 IN_PARAMETER = "[wanted, ...scope.put(message), isProtected ? 1 : 0]"
 JAVASCRIPT = losses_of(
     "bindings/js",
@@ -228,6 +257,10 @@ JAVASCRIPT = losses_of(
             ("verifyCwt: aad", "const external = scope.put(aad)", "const external = scope.put(STRUCTS.NOTHING)"),
             ("verifyCwt: large", '"table_" : large ? "large_" : "";', '"table_" : "";'),
             ("claims: large", '${large ? "large_" : ""}claims', "claims"),
+            ("stated, keyOf: terms", KEY_OF, KEY_OF.replace("terms)", "{ wanted: terms.wanted })")),
+            ("stated, keyOf: large", 'cose_edge_${terms.large ? "large_" : ""}key_of', "cose_edge_key_of"),
+            ("stated, mismatch: terms", MISMATCH, MISMATCH.replace("terms)", "{ wanted: terms.wanted })")),
+            ("stated, mismatch: large", 'cose_edge_${terms.large ? "large_" : ""}mismatch', "cose_edge_mismatch"),
             ("stated, parameter: wanted", IN_PARAMETER, IN_PARAMETER.replace("wanted", "0")),
             ("stated, parameter: the bucket", IN_PARAMETER, IN_PARAMETER.replace("isProtected ? 1 : 0", "1")),
             ("stated, parameter: large", 'cose_edge_${large ? "large_" : ""}parameter', "cose_edge_parameter"),
@@ -241,6 +274,8 @@ JAVASCRIPT = losses_of(
         "cose_blocks.js": [
             ("stated, parameter of a verifier: the bucket", "[this.handle, isProtected ? 1 : 0]", "[this.handle, 1]"),
             ("stated, parameter of a verifier: large", "this.prefix ? 65_535 : 1_024", "1_024"),
+            ("stated, keyOf of a verifier: terms", FED_KEY_OF, FED_KEY_OF.replace("terms)", "{ wanted: terms.wanted })")),
+            ("stated, keyOf of a verifier: wanted", FED_KEY_OF, FED_KEY_OF.replace("terms)", "{ ...terms, wanted: 0 })")),
             ("Verifier: aad", "...this.keep(keys), ...this.keep(aad)", "...this.keep(keys), ...this.keep(FORMS.NOTHING)"),
             ("Verifier: wanted", '"open", true)(this.handle, ...given, wanted,', '"open", true)(this.handle, ...given, 0,'),
             ("Verifier, detached: wanted", f"{FED_DETACHED} wanted,", f"{FED_DETACHED} 0,"),

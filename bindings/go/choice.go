@@ -39,7 +39,27 @@ func KeyOf(keys, message []byte, terms *Terms) (place uint64, item []byte, err e
 	if err != nil {
 		return 0, nil, err
 	}
-	found := C.sized_key_of(given, bytesOf(keys), bytesOf(message))
+	return keyAt(keys, C.sized_key_of(C.bool(t.Large), given, bytesOf(keys), bytesOf(message)))
+}
+
+// KeyOf is which key of a set the message so far is verified with, as the function KeyOf says it of one in memory: from the end of its
+// header on, where both buckets were found good, and until Reset. Before that it returns ErrNoKey. Nothing is authenticated: ask after the
+// Verdict, which has the Kind that Wanted of the terms is. Large is that of the verifier.
+func (v *Verifier) KeyOf(keys []byte, terms *Terms) (place uint64, item []byte, err error) {
+	t := terms.orDefault()
+	given, err := t.given()
+	if err != nil {
+		return 0, nil, err
+	}
+	if err := v.block.lock(); err != nil {
+		return 0, nil, err
+	}
+	defer v.block.mutex.Unlock()
+	return keyAt(keys, C.sized_fed_key_of(v.large, v.block.at, given, bytesOf(keys)))
+}
+
+// keyAt is the key of a set that an answer names.
+func keyAt(keys []byte, found C.struct_cose_item) (place uint64, item []byte, err error) {
 	if found.present == 0 {
 		return 0, nil, ErrNoKey
 	}
@@ -54,7 +74,7 @@ func KeyMismatch(keys, message []byte, place uint64, terms *Terms) (Mismatch, er
 	if err != nil {
 		return Fits, err
 	}
-	fit := C.sized_mismatch(given, bytesOf(keys), bytesOf(message), C.uint64_t(place))
+	fit := C.sized_mismatch(C.bool(t.Large), given, bytesOf(keys), bytesOf(message), C.uint64_t(place))
 	if fit.status != C.COSE_COMPLETE {
 		return Fits, errorOf(fit.status, fit.reason, fit.place)
 	}

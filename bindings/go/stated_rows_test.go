@@ -116,6 +116,9 @@ func runTerms(g *group, r *row) error {
 		if len(terms.Understood) > 0 || r.Result.Reason == "Trailing" {
 			continue
 		}
+		if err = runTermsKey(g, r, terms); err != nil {
+			return err
+		}
 		for _, size := range []int{1, 7, 64} {
 			seen := inPiecesUnder(g, r.Token, terms, size)
 			if err = differs(fmt.Sprintf("NewVerifierUnder, pieces of %d", size), seen, wanted); err != nil {
@@ -124,6 +127,43 @@ func runTerms(g *group, r *row) error {
 		}
 	}
 	return runTermsInTable(g, r.Token, wanted)
+}
+
+// askedForKey is how many times a row of terms was asked for its key.
+var askedForKey int
+
+// runTermsKey has the key of the token in memory, and of one that is fed, where one fits: alone it authenticates the token.
+func runTermsKey(g *group, r *row, terms *cose.Terms) error {
+	fits := r.Result.Verdict != "refused message"
+	if !fits && r.Result.Reason != "NoKey" {
+		return nil
+	}
+	v, err := cose.NewVerifier(g.Keys, &cose.Options{Large: terms.Large})
+	if err != nil {
+		return err
+	}
+	defer v.Close()
+	// without the terms more keys may fit, and the message is refused after its headers
+	_, _ = v.Feed(r.Token)
+	ofMac := *terms
+	ofMac.Wanted = cose.Mac0
+	for name, keyOf := range map[string]func() (uint64, []byte, error){
+		"KeyOf":          func() (uint64, []byte, error) { return cose.KeyOf(g.Keys, r.Token, &ofMac) },
+		"Verifier.KeyOf": func() (uint64, []byte, error) { return v.KeyOf(g.Keys, &ofMac) },
+	} {
+		_, item, err := keyOf()
+		if (err == nil) != fits || err != nil && !errors.Is(err, cose.ErrNoKey) {
+			return fmt.Errorf("%s: %v", name, err)
+		}
+		if !fits {
+			continue
+		}
+		if _, err = cose.Authenticate(item, r.Token, terms); err != nil {
+			return fmt.Errorf("Authenticate by the key of %s: %v", name, err)
+		}
+	}
+	askedForKey++
+	return nil
 }
 
 // throughTable is how many rows of each file went through a table too.
@@ -260,6 +300,24 @@ func runChecklist(g *group, r *row) error {
 		return err
 	}
 	return differs(fmt.Sprintf("line %d, TermsTable", g.Line), seen, r.Result.wanted())
+}
+
+// TestRowsForKey says how many rows of terms are asked for their key, in both sizes: all but seven, with labels that are understood, or
+// that are refused for another reason than NoKey.
+func TestRowsForKey(t *testing.T) {
+	askedForKey = 0
+	rows, groups := 0, groupsOf(t, "terms")
+	for i := range groups {
+		for j := range groups[i].Tests {
+			rows++
+			if err := runTerms(&groups[i], &groups[i].Tests[j]); err != nil {
+				t.Error(groups[i].Tests[j].TcID, err)
+			}
+		}
+	}
+	if rows != askedForKey/2+7 {
+		t.Errorf("%d of %d rows are asked for their key", askedForKey/2, rows)
+	}
 }
 
 // TestRowsInTable says how many rows go through a table: of the checklist all but those with a detached payload.

@@ -147,20 +147,33 @@ static inline struct cose_claims_set sized_table_admit(uint8_t *block, struct si
     return claims;
 }
 
-static inline struct cose_item sized_key_of(struct sized_terms terms, struct sized_bytes keys, struct sized_bytes message)
+static inline struct cose_item sized_key_of(bool large, struct sized_terms terms, struct sized_bytes keys, struct sized_bytes message)
 {
     struct cose_item key = {0};
     struct cose_terms given = sized_terms_of(terms, keys, (struct sized_bytes){0});
-    cose_key_of(&given, message.at, message.length, &key);
+    (large ? cose_large_key_of : cose_key_of)(&given, message.at, message.length, &key);
     return key;
 }
 
-static inline struct cose_key_fit sized_mismatch(struct sized_terms terms, struct sized_bytes keys, struct sized_bytes message,
+static inline struct cose_item sized_fed_key_of(bool large, uint8_t *block, struct sized_terms terms, struct sized_bytes keys)
+{
+    struct cose_item key = {0};
+    struct cose_verifier verifier = {block};
+    struct cose_large_verifier large_verifier = {block};
+    struct cose_terms given = sized_terms_of(terms, keys, (struct sized_bytes){0});
+    if (large)
+        cose_large_fed_key_of(&large_verifier, &given, &key);
+    else
+        cose_fed_key_of(&verifier, &given, &key);
+    return key;
+}
+
+static inline struct cose_key_fit sized_mismatch(bool large, struct sized_terms terms, struct sized_bytes keys, struct sized_bytes message,
     uint64_t place)
 {
     struct cose_key_fit fit = {0};
     struct cose_terms given = sized_terms_of(terms, keys, (struct sized_bytes){0});
-    cose_mismatch(&given, message.at, message.length, place, &fit);
+    (large ? cose_large_mismatch : cose_mismatch)(&given, message.at, message.length, place, &fit);
     return fit;
 }
 

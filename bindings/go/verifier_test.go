@@ -53,6 +53,7 @@ func TestReentry(t *testing.T) {
 			"Verdict":     func() error { return second(v.Verdict()) },
 			"VerifyFrom":  func() error { return second(v.VerifyFrom(bytes.NewReader(bad), io.Discard)) },
 			"Counts":      func() error { return second(v.Counts()) },
+			"KeyOf":       func() error { _, _, err := v.KeyOf(keys, nil); return err },
 			"Close":       v.Close,
 		} {
 			if err := call(); !errors.Is(err, cose.ErrInUse) {

@@ -407,7 +407,8 @@ class Cose {
     keyOf(keys, message, terms) {
         return this.scoped((scope) => {
             const at = scope.room(STRUCTS.LAYOUTS.cose_item.size);
-            this.exports.cose_edge_key_of(STATED.terms(this, scope, keys, terms), ...scope.put(message), at);
+            const name = `cose_edge_${terms.large ? "large_" : ""}key_of`;
+            this.exports[name](STATED.terms(this, scope, keys, terms), ...scope.put(message), at);
             const item = this.read(at, "cose_item");
             return item.present ? { place: item.at, item: STRUCTS.copyOf(keys, item.at, item.length) } : undefined;
         });
@@ -425,7 +426,8 @@ class Cose {
     mismatch(keys, message, place, terms) {
         return this.scoped((scope) => {
             const at = scope.room(STRUCTS.LAYOUTS.cose_key_fit.size);
-            this.exports.cose_edge_mismatch(STATED.terms(this, scope, keys, terms), ...scope.put(message), BigInt(place), at);
+            const name = `cose_edge_${terms.large ? "large_" : ""}mismatch`;
+            this.exports[name](STATED.terms(this, scope, keys, terms), ...scope.put(message), BigInt(place), at);
             return this.read(at, "cose_key_fit");
         });
     }

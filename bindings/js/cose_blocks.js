@@ -4,7 +4,7 @@
 "use strict";
 
 /** What cose_structs.js and terms.js have, which a page reads as scripts before this one. */
-const FORMS = typeof module === "object" ? module.require("./cose_structs.js") : { LAYOUTS, NOTHING, WANTED, labelOf };
+const FORMS = typeof module === "object" ? module.require("./cose_structs.js") : { LAYOUTS, NOTHING, WANTED, labelOf, copyOf };
 const UNDER = typeof module === "object" ? module.require("./terms.js").Stated : Stated;
 
 /** A block of the module's memory, with the struct that leads to it. `close` overwrites the block and gives both back. */
@@ -210,6 +210,23 @@ class Verifier extends Block {
             }
             const item = this.cose.read(at, "cose_item");
             return item.present ? this.cose.bytes(room, item.length) : undefined;
+        });
+    }
+
+    /**
+     * Which key of a set the message so far is verified with, as of `Cose.keyOf`: once both header buckets were found good, until `reset`.
+     * `wanted` of the terms is the kind of the message, 17 or 18, as its verdict has it, and `large` is that of the verifier. Nothing is
+     * authenticated: ask after the verdict.
+     * @param {Uint8Array} keys
+     * @param {Terms} terms
+     * @returns {{place: number, item: Uint8Array} | undefined}
+     */
+    keyOf(keys, terms) {
+        return this.cose.scoped((scope) => {
+            const at = scope.room(FORMS.LAYOUTS.cose_item.size);
+            this.call("fed_key_of", true)(this.handle, UNDER.terms(this.cose, scope, keys, terms), at);
+            const item = this.cose.read(at, "cose_item");
+            return item.present ? { place: item.at, item: FORMS.copyOf(keys, item.at, item.length) } : undefined;
         });
     }
 

@@ -2,7 +2,7 @@
 import assert from "node:assert/strict";
 import { createHmac, generateKeyPairSync, sign } from "node:crypto";
 import { test } from "node:test";
-import { load, MISMATCH, Refused, STATUS, UNMET, Verifier, WANTED } from "../index.mjs";
+import { load, MISMATCH, reasonOf, Refused, STATUS, UNMET, Verifier, WANTED } from "../index.mjs";
 
 const cose = await load();
 const SECRET = Buffer.from("a secret of the tests");
@@ -16,6 +16,9 @@ const short = (bytes) => Buffer.concat([Buffer.from([0x40 + bytes.length]), byte
 
 /** An unprotected bucket of more than 1,024 bytes: {100: 1,100 bytes}. */
 const LARGE = Buffer.concat([Buffer.from("a1186459044c", "hex"), Buffer.alloc(1100, 7)]);
+
+/** One that nests 12 deep: {100: [[[[[[[[[[[]]]]]]]]]]]}. */
+const DEEP = Buffer.from(`a11864${"81".repeat(10)}80`, "hex");
 
 /** A COSE_Mac0 with HMAC 256/256 under `KEYS`: its tag is of the MAC_structure (RFC 9052 section 6.3). */
 function mac0(payload, { aad = Buffer.alloc(0), tag = "d1", detached = false, unprotected = Buffer.from([0xa0]) } = {}) {
@@ -138,4 +141,91 @@ test("the key of a message is told, and why another one isn't it", () => {
     assert.deepEqual([why.status, MISMATCH[why.condition]], [STATUS.COMPLETE, "algorithm"]);
     assert.equal(cose.mismatch(keys, mac0(Buffer.from("hi")), found.place, terms).condition, 0);
     assert.equal(cose.mismatch(keys, mac0(Buffer.from("hi")), 1, {}).status, STATUS.BAD_ARGUMENT);
+});
+
+/** A set of two keys, of which the second one is that of messages under `KEYS`, and what is told of it. */
+const OTHER = KEYS.map((byte, at) => (at === 4 ? 6 : byte));
+const SET = Buffer.concat([Buffer.from("82", "hex"), OTHER, KEYS]);
+const CHOSEN = [1 + OTHER.length, KEYS];
+
+/** An answer of `keyOf`, to compare. */
+const told = (found) => found && [found.place, Buffer.from(found.item)];
+
+/** A verifier that was fed a message, or its first bytes, and what it answered. */
+function fed(message, options) {
+    const verifier = new Verifier(cose, options);
+    verifier.open(KEYS);
+    return { verifier, ...verifier.feed(message) };
+}
+
+test("the key of a message with large headers is told under terms that are large", () => {
+    for (const [unprotected, reason] of [[LARGE, "PastRoom"], [DEEP, "TooDeep"]]) {
+        const message = mac0(Buffer.from("hi"), { unprotected });
+        const terms = { wanted: WANTED.MAC0, large: true };
+        assert.deepEqual(told(cose.keyOf(SET, message, terms)), CHOSEN);
+        assert.equal(cose.keyOf(SET, message, { wanted: WANTED.MAC0 }), undefined);
+        assert.equal(cose.keyOf(SET, message, { ...terms, leastSecret: SECRET.length + 1 }), undefined);
+        const why = (place, stated) => {
+            const { status, condition } = cose.mismatch(SET, message, place, { ...terms, ...stated });
+            return [status, MISMATCH[condition]];
+        };
+        assert.deepEqual(why(1), [STATUS.COMPLETE, "algorithm"]);
+        assert.deepEqual(why(CHOSEN[0]), [STATUS.COMPLETE, ""]);
+        assert.deepEqual(why(CHOSEN[0], { algorithms: [6] }), [STATUS.COMPLETE, "not permitted"]);
+        assert.deepEqual(why(CHOSEN[0], { wanted: WANTED.SIGN1 }), [STATUS.REFUSED, ""]);
+        const usual = cose.mismatch(SET, message, 1, { wanted: WANTED.MAC0 });
+        assert.deepEqual([usual.status, reasonOf(usual.reason).name], [STATUS.REFUSED, reason]);
+    }
+});
+
+test("the key of a message that is fed is told from the end of its headers until the verifier is reset", () => {
+    const message = mac0(Buffer.from("hi"));
+    const terms = { wanted: WANTED.MAC0 };
+    // d1 84 43 a1 01 05 a0: the seventh byte is the unprotected bucket
+    for (const large of [false, true])
+        for (let count = 0; count <= message.length; count += 1) {
+            const { verifier } = fed(message.subarray(0, count), { large });
+            assert.deepEqual(told(verifier.keyOf(SET, terms)), count < 7 ? undefined : CHOSEN, `${count} bytes`);
+            verifier.close();
+        }
+    const { verifier } = fed(message);
+    for (let turn = 0; turn < 2; turn += 1) {
+        verifier.end();
+        const { status, kind } = verifier.verdict(false);
+        assert.equal(status, STATUS.AUTHENTIC);
+        assert.deepEqual(told(verifier.keyOf(SET, { wanted: kind })), CHOSEN);
+        verifier.reset();
+        assert.equal(verifier.keyOf(SET, terms), undefined);
+        verifier.feed(message);
+    }
+    verifier.close();
+    assert.throws(() => verifier.keyOf(SET, terms), /closed/);
+});
+
+test("no key of a message that is fed is told that the terms leave out, or that isn't the message's", () => {
+    const { verifier } = fed(mac0(Buffer.from("hi")));
+    const mac = { wanted: WANTED.MAC0 };
+    const secret = SECRET.length;
+    for (const terms of [{}, { wanted: WANTED.SIGN1 }, { ...mac, algorithms: [6] }, { ...mac, leastSecret: secret + 1 }])
+        assert.equal(verifier.keyOf(SET, terms), undefined, JSON.stringify(terms));
+    assert.deepEqual(told(verifier.keyOf(SET, { ...mac, algorithms: [5], leastSecret: secret })), CHOSEN);
+    // without its algorithm: {1: 4, -1: SECRET}
+    const unnamed = Buffer.concat([Buffer.from("a20104", "hex"), KEYS.subarray(5)]);
+    for (const keys of [OTHER, unnamed, Buffer.from("80", "hex"), Buffer.alloc(0)]) assert.equal(verifier.keyOf(keys, mac), undefined);
+    assert.deepEqual(told(verifier.keyOf(unnamed, { ...mac, shortMac: true, withoutAlg: true })), [0, unnamed]);
+    assert.throws(() => verifier.keyOf(SET, { algorithms: [] }), RangeError);
+    verifier.close();
+});
+
+test("large headers that are fed are those of the verifier, whatever the terms say", () => {
+    for (const unprotected of [LARGE, DEEP]) {
+        const message = mac0(Buffer.from("hi"), { unprotected });
+        for (const large of [false, true]) {
+            const { verifier, status } = fed(message, { large });
+            assert.equal(status, large ? STATUS.COMPLETE : STATUS.REFUSED);
+            const found = verifier.keyOf(SET, { wanted: WANTED.MAC0, large: !large });
+            assert.deepEqual(told(found), large ? CHOSEN : undefined);
+            verifier.close();
+        }
+    }
 });

@@ -336,8 +336,32 @@ function runTerms(group, test) {
         equal(claimsIn(cose.authenticate(keys, token, stated), token, stated), wanted, "authenticate and admitClaims");
         if (test.result.reason === "Trailing" || stated.understood?.length) continue;
         for (const size of [1, 7, 64]) equal(inPiecesUnder(keys, token, stated, size), wanted, `openUnder, pieces of ${size}`);
+        runTermsKey(keys, token, stated, test.result);
     }
     runTermsInTable(keys, token, termsOf(group, false), wanted);
+}
+
+/** How many times a row was asked for its key. */
+export const askedForKey = { terms: 0 };
+
+/** The key of a token in memory, and of one that is fed, where one fits: alone it authenticates the token. */
+function runTermsKey(keys, token, stated, { verdict, reason }) {
+    const fits = verdict !== "refused message";
+    if (!fits && reason !== "NoKey") return;
+    const verifier = new Verifier(cose, { large: stated.large });
+    try {
+        verifier.open(keys);
+        // without the terms more keys may fit, and the message is refused after its headers
+        feed(verifier, token, 7, []);
+        const terms = { ...stated, wanted: WANTED.mac0 };
+        for (const found of [cose.keyOf(keys, token, terms), verifier.keyOf(keys, terms)]) {
+            equal(found !== undefined, fits, "keyOf");
+            if (found) equal(cose.authenticate(found.item, token, stated).status, STATUS.AUTHENTIC, "authenticate by the key of keyOf");
+        }
+        askedForKey.terms += 1;
+    } finally {
+        verifier.close();
+    }
 }
 
 /** The answer for the claims of a message with this verdict. */

@@ -1,7 +1,7 @@
 // The rows of rows/, a test a file.
 import assert from "node:assert/strict";
 import { test } from "node:test";
-import { leftOutOf, lineOf, runFile, SCHEMAS, throughTable } from "./rows.mjs";
+import { askedForKey, leftOutOf, lineOf, runFile, SCHEMAS, throughTable } from "./rows.mjs";
 
 /** How many rows of each file are left out, so that no more are. */
 const LEFT_OUT = {
@@ -40,3 +40,12 @@ for (const [schema, detached] of Object.entries(DETACHED)) {
         assert.deepEqual([differ, rows - throughTable[schema]], [[], detached]);
     });
 }
+
+/** Rows with labels that are understood, or that are refused for another reason than NoKey. */
+const WITHOUT_KEY = 7;
+
+test("each other row of terms is asked for its key, in both sizes", async () => {
+    askedForKey.terms = 0;
+    const { rows, differ } = await runFile("terms");
+    assert.deepEqual([differ, rows - askedForKey.terms / 2], [[], WITHOUT_KEY]);
+});

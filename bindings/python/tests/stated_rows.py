@@ -3,9 +3,10 @@
 from __future__ import annotations
 
 import collections
-from typing import Counter, Tuple
+from typing import Counter, List, Optional, Tuple
 
 import cose
+from cose import cbor
 from row_answers import (
     CUTS,
     KINDS,
@@ -22,8 +23,9 @@ from row_answers import (
     wanted_claims,
 )
 
-# how many rows of each file went through a table too
+# how many rows of each file went through a table too, and were asked for their key
 through_table: Counter[str] = collections.Counter()
+asked_for_key: Counter[str] = collections.Counter()
 
 # ---- tokens under terms and requirements
 
@@ -42,8 +44,9 @@ def terms_of(group: Row) -> Row:
     return found
 
 
-# those of messages
-_STATED = ("algorithms", "least_secret", "short_mac", "without_alg", "understood", "payload_limit")
+# those of keys, and of messages
+_OF_KEYS = ("algorithms", "least_secret", "short_mac", "without_alg")
+_STATED = (*_OF_KEYS, "understood", "payload_limit")
 
 
 def parted(given: Row) -> Tuple[Row, Row]:
@@ -85,6 +88,35 @@ def run_terms(group: Row, test: Row) -> None:
                 terms = {**messages, "large": large}
                 run_terms_in_pieces(keys, token, wanted, terms, of_tokens, size)
     run_terms_in_table(keys, token, wanted, messages, of_tokens)
+    run_terms_key(keys, token, result, messages)
+
+
+def keys_of(
+    keys: bytes, token: bytes, large: bool, messages: Row
+) -> List[Optional[cose.ChosenKey]]:
+    """The key of a token in memory, and of one that is fed."""
+    stated = {it: messages[it] for it in _OF_KEYS if it in messages}
+    with cose.Verifier(keys, large=large) as verifier:
+        # without the terms more keys may fit, and the message is refused after its headers
+        answer(lambda: fed(verifier, token, 7, bytearray()))
+        found = verifier.key_of(keys, wanted=cose.Kind.MAC0, **stated)
+    return [cose.key_of(keys, token, large=large, **stated), found]
+
+
+def run_terms_key(keys: bytes, token: bytes, result: Row, messages: Row) -> None:
+    """The key of a token, where one fits: alone it authenticates the token."""
+    fits = result["verdict"] != "refused message"
+    if messages.get("understood") or not fits and result["reason"] != "NoKey":
+        return
+    for large in SIZES:
+        for key in keys_of(keys, token, large, messages):
+            equal(key is not None, fits, "key_of")
+            if key:
+                alone = keys[key.place : cbor.end_of_item(keys, key.place)]
+                equal(cbor.decode(alone).get(2), key.kid, "key_of, kid")
+                taken = cose.authenticate(alone, token, large=large, **messages).taken
+                equal(taken, len(token), "authenticate by the key of key_of")
+    asked_for_key["terms"] += 1
 
 
 def run_terms_in_table(

@@ -1,6 +1,7 @@
 """Which key of a set a message is verified with, and why the others aren't."""
 
 import unittest
+from typing import Any
 
 import cose
 from cose import Kind, Mismatch, Reason
@@ -53,10 +54,16 @@ class Choosing(unittest.TestCase):
             (named, {"least_secret": 4}, None),
             (named, {"least_secret": 5}, Mismatch.NOT_PERMITTED),
         ):
-            found = cose.mismatches(keys, self.message, **stated)  # type: ignore[arg-type]
-            self.assertEqual(found, [(0, condition)], stated)
-            chosen = cose.key_of(keys, self.message, **stated)  # type: ignore[arg-type]
-            self.assertEqual(chosen is None, condition is not None, stated)
+            wanted = None if condition else cose.ChosenKey(0, None)
+            for large in (False, True):
+                given: Any = stated
+                found = cose.mismatches(keys, self.message, large=large, **given)
+                self.assertEqual(found, [(0, condition)], stated)
+                chosen = cose.key_of(keys, self.message, large=large, **given)
+                self.assertEqual(chosen, wanted, stated)
+                with cose.Verifier(named, wanted=Kind.MAC0, large=large) as verifier:
+                    verifier.feed(self.message)
+                    self.assertEqual(verifier.key_of(keys, **given), wanted, stated)
         untagged = self.message[1:]
         self.assertIsNotNone(cose.key_of(named, untagged, wanted=Kind.MAC0))
         self.assertEqual(cose.mismatches(named, untagged, wanted=Kind.MAC0), [(0, None)])

@@ -28,6 +28,8 @@ class Rows(unittest.TestCase):
 
     # those of the checklist with a detached payload
     DETACHED = 5
+    # those of terms with labels that are understood, or that are refused for another reason than NoKey
+    WITHOUT_KEY = 7
 
     def test_rows(self) -> None:
         for schema, left_out in self.LEFT_OUT.items():
@@ -40,11 +42,13 @@ class Rows(unittest.TestCase):
     def test_table(self) -> None:
         """Each row of terms goes through a table too, and each of the checklist without such a payload."""
         stated_rows.through_table.clear()
+        stated_rows.asked_for_key.clear()
         terms, checklist = rows.run_file("terms"), rows.run_file("checklist")
         self.assertEqual(terms.differ + checklist.differ, [])
         through = stated_rows.through_table
         self.assertEqual(through["terms"], terms.rows)
         self.assertEqual(checklist.rows - through["checklist"], self.DETACHED)
+        self.assertEqual(terms.rows - stated_rows.asked_for_key["terms"], self.WITHOUT_KEY)
 
 
 if __name__ == "__main__":

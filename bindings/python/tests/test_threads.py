@@ -48,6 +48,7 @@ class Answers(unittest.TestCase):
                 verifier.end,
                 verifier.verdict,
                 verifier.close,
+                lambda: verifier.key_of(SIGN1_KEYS),
                 lambda: verifier.taken,
             )
             for call in calls:
@@ -61,7 +62,7 @@ class Answers(unittest.TestCase):
             verifier.feed(GENUINE)
             found = verifier.verdict()
             self.assertEqual((found.payload_length, found.taken), (20, len(GENUINE)))
-            self.assertEqual(refused, ["the verifier is in use"] * 7)
+            self.assertEqual(refused, ["the verifier is in use"] * 8)
             # it serves again, and the answer about the first message counts for it alone
             verifier.reset()
             verifier.feed(FORGED)

@@ -81,13 +81,13 @@ class Terms:
 
 def terms_of(
     keys: Keys,
-    kind: Kind,
+    kind: Optional[Kind],
     algorithms: Optional[Iterable[int]],
     least_secret: int,
     short_mac: bool,
     without_alg: bool,
 ) -> Terms:
-    """What a caller states of keys, for messages of one kind."""
+    """What a caller states of keys, for messages of one kind, which may be stated later."""
     stated = (algorithms, least_secret, short_mac, without_alg)
     return Terms(keys, b"", kind, *stated, (), None)
 

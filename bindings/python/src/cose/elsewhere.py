@@ -128,4 +128,5 @@ class Elsewhere(Verifier):
             if status.status != Status.COMPLETE:
                 fail(status)
             getattr(self._calls, name)(handle, *stated, byref(verdict))
+            self._kind = verdict.kind or self._kind
         return _authentic(verdict)

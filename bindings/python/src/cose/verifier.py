@@ -21,7 +21,8 @@ from ._library import (
     small,
 )
 from ._numbers import reader
-from .admitting import Terms
+from .admitting import Terms, terms_of
+from .choosing import ChosenKey, key_at
 from .keys import Keys, data_of
 
 _numbers_of = reader(FedStruct)
@@ -90,7 +91,7 @@ class Verifier:
         ecdsa: Optional[Ecdsa] = None,
         large: bool = False,
     ) -> None:
-        self._prepare(keys, aad, ecdsa, large)
+        self._prepare(keys, aad, wanted, ecdsa, large)
         self._open(wanted_of(wanted), payload_length)
 
     @classmethod
@@ -114,14 +115,23 @@ class Verifier:
         No label is understood in addition to those of RFC 9052.
         """
         it = cls.__new__(cls)
-        it._prepare(keys, aad, ecdsa, large)
+        it._prepare(keys, aad, wanted, ecdsa, large)
         stated = (algorithms, least_secret, short_mac, without_alg, (), payload_limit)
         terms = Terms(it._keys, it._aad, wanted, *stated)
         it._begin(("edge_open_under", "edge_open_under_detached"), (byref(terms.struct),), payload_length)
         return it
 
-    def _prepare(self, keys: Keys, aad: Buffer, ecdsa: Optional[Ecdsa], large: bool) -> None:
+    def _prepare(
+        self,
+        keys: Keys,
+        aad: Buffer,
+        wanted: Optional[Kind],
+        ecdsa: Optional[Ecdsa],
+        large: bool,
+    ) -> None:
         """The memory of the verifier, which isn't opened yet."""
+        # the kind of the messages, and that of the message: 0 as long as it isn't known
+        self._wanted = self._kind = wanted_of(wanted)
         self._is_large, self._calls = large, _library.large if large else small
         self._ecdsa = ecdsa
         # the library reads both until the verifier is closed
@@ -202,6 +212,7 @@ class Verifier:
             has_signature = self._calls.sign_input(handle, byref(sign_input)) == 1
             good = has_signature and is_good(sign_input, self._ecdsa)
             self._calls.verdict(handle, int(good), byref(verdict))
+            self._kind = verdict.kind or self._kind
         return _authentic(verdict)
 
     def protected(self, label: Union[int, str]) -> Any:
@@ -231,9 +242,39 @@ class Verifier:
             raise KeyError(label)
         return cbor.decode(room.raw[: found.length])
 
+    def key_of(
+        self,
+        keys: Keys,
+        *,
+        algorithms: Optional[Iterable[int]] = None,
+        least_secret: int = 0,
+        short_mac: bool = False,
+        without_alg: bool = False,
+        wanted: Optional[Kind] = None,
+    ) -> Optional[ChosenKey]:
+        """Which key of a set the message is verified with, as `cose.key_of` says of one in memory.
+
+        It is known once both header buckets were found good, until `reset`. Returns None before
+        that, and where no key fits. Nothing is authenticated: ask after the verdict.
+
+        wanted: the kind of the message. By default it is the one that the verifier was made with,
+        or else that of the verdict on an authentic message; without either it raises `ValueError`.
+        """
+        secrets, found = data_of(keys), ItemStruct()
+        terms = terms_of(secrets, wanted, algorithms, least_secret, short_mac, without_alg)
+        # one use of the block: the kind is that of the message which is asked about
+        with self._block as handle:
+            terms.struct.kind = terms.struct.kind or self._kind
+            if terms.struct.kind == 0:
+                raise ValueError("wanted isn't stated, and the kind of the message isn't known")
+            self._calls.edge_fed_key_of(handle, byref(terms.struct), byref(found))
+        return key_at(secrets, found)
+
     def reset(self) -> None:
         """Begins the next message, under the same keys."""
-        self._call("reset")
+        with self._block as handle:
+            self._calls.reset(handle)
+            self._kind = self._wanted
 
     @property
     def wanted(self) -> int:
