@@ -1,6 +1,6 @@
 /* The calls of the package cose that are made most, by Python's stable ABI. Each takes what Python has checked, and
- * returns the bytes of the library's structs, which cose/_numbers.py reads. The locks of blocks are held by Python, and
- * errors are raised there. */
+ * returns the bytes of the library's structs, which cose/_numbers.py reads, or objects that hold them, as those of
+ * cose/_fields.py do. The locks of blocks are held by Python, and errors are raised there. */
 #define Py_LIMITED_API 0x03090000
 #define PY_SSIZE_T_CLEAN
 #include <Python.h>
@@ -183,23 +183,302 @@ static PyObject *table_admit(PyObject *module, PyObject *arguments)
     return bytes_of(&claims, sizeof claims);
 }
 
-/* A token, and where its claims are written. */
-struct job {
-    struct slice token;
-    struct cose_claims_set *claims;
+/* The forms of a field of claims. */
+enum form { PAYLOAD, TEXT, BYTES, DATE };
+
+/* A field of claims with one value: its form, and its place in the struct. */
+struct place {
+    const char *name;
+    enum form form;
+    size_t at;
 };
 
-/* A job for each token of a tuple. The answers are bytes that nothing else has yet. It returns whether it is no error
- * of Python's. */
-static int to_jobs(PyObject *tokens, PyObject *answers, struct job *jobs)
+static const struct place places[] = {
+    {"payload", PAYLOAD, offsetof(struct cose_claims_set, payload_at)},
+    {"iss", TEXT, offsetof(struct cose_claims_set, iss)},
+    {"sub", TEXT, offsetof(struct cose_claims_set, sub)},
+    {"exp", DATE, offsetof(struct cose_claims_set, exp)},
+    {"nbf", DATE, offsetof(struct cose_claims_set, nbf)},
+    {"iat", DATE, offsetof(struct cose_claims_set, iat)},
+    {"cti", BYTES, offsetof(struct cose_claims_set, cti)},
+};
+
+enum { FIELDS = sizeof places / sizeof *places };
+
+/* An object of the class Found, or of one derived from it: the bytes of a token or of a payload, the fields that were
+ * read, and the library's answer. */
+struct found {
+    PyObject ob_base;
+    PyObject *token;
+    PyObject *read[FIELDS];
+    struct cose_claims_set claims;
+};
+
+/* An object of the class Field: what reads a field of the objects of a class. */
+struct field {
+    PyObject ob_base;
+    PyTypeObject *owner;
+    size_t number;
+};
+
+/* The classes of this module. */
+struct classes {
+    PyTypeObject *found, *field;
+};
+
+/* Frees an object that refers to nothing any more. */
+static void free_object(PyObject *self)
+{
+    PyTypeObject *kind = Py_TYPE(self);
+    freefunc release = (freefunc)PyType_GetSlot(kind, Py_tp_free);
+    release(self);
+    Py_DECREF(kind);
+}
+
+static void forget(struct found *found)
+{
+    for (size_t i = 0; i < FIELDS; i++)
+        Py_CLEAR(found->read[i]);
+}
+
+static void found_dealloc(PyObject *self)
+{
+    struct found *found = (struct found *)self;
+    forget(found);
+    Py_CLEAR(found->token);
+    free_object(self);
+}
+
+static PyObject *get_token(PyObject *self, void *closure)
+{
+    PyObject *token = ((struct found *)self)->token;
+    (void)closure;
+    if (token == NULL)
+        return bytes_of("", 0);
+    Py_INCREF(token);
+    return token;
+}
+
+static PyObject *get_answer(PyObject *self, void *closure)
+{
+    const struct found *found = (const struct found *)self;
+    (void)closure;
+    return bytes_of(&found->claims, found->token != NULL ? sizeof found->claims : 0);
+}
+
+static int is_bytes(PyObject *value)
+{
+    if (value != NULL && PyBytes_Check(value))
+        return 1;
+    PyErr_SetString(PyExc_TypeError, "it should be bytes");
+    return 0;
+}
+
+static int set_token(PyObject *self, PyObject *value, void *closure)
+{
+    struct found *found = (struct found *)self;
+    PyObject *former = found->token;
+    (void)closure;
+    if (!is_bytes(value))
+        return -1;
+    forget(found);
+    Py_INCREF(value);
+    found->token = value;
+    Py_XDECREF(former);
+    return 0;
+}
+
+static int to_claims(PyObject *bytes, struct cose_claims_set *claims)
+{
+    const Py_ssize_t length = PyBytes_Size(bytes);
+    if (length != 0 && length != sizeof *claims) {
+        PyErr_SetString(PyExc_ValueError, "an answer of another size");
+        return 0;
+    }
+    memset(claims, 0, sizeof *claims);
+    memcpy(claims, PyBytes_AsString(bytes), (size_t)length);
+    return 1;
+}
+
+static int set_answer(PyObject *self, PyObject *value, void *closure)
+{
+    struct found *found = (struct found *)self;
+    (void)closure;
+    if (!is_bytes(value) || !to_claims(value, &found->claims))
+        return -1;
+    forget(found);
+    return 0;
+}
+
+static PyGetSetDef found_attributes[] = {
+    {"_token", get_token, set_token, NULL, NULL},
+    {"_found", get_answer, set_answer, NULL, NULL},
+    {NULL, NULL, NULL, NULL, NULL},
+};
+
+static PyType_Slot found_slots[] = {
+    {Py_tp_doc, "The bytes of a token or of a payload, and those of the library's answer about it."},
+    {Py_tp_dealloc, found_dealloc},
+    {Py_tp_getset, found_attributes},
+    {0, NULL},
+};
+
+static PyType_Spec found_spec = {
+    .name = "cose._extension.Found",
+    .basicsize = sizeof(struct found),
+    .flags = Py_TPFLAGS_DEFAULT | Py_TPFLAGS_BASETYPE,
+    .slots = found_slots,
+};
+
+/* A range of the payload, which an answer about these bytes has. Where it is all of them, nothing is copied. */
+static PyObject *part_of(const struct found *found, uint64_t at, uint64_t length, enum form form)
+{
+    const uint64_t begin = found->claims.payload_at, size = (uint64_t)PyBytes_Size(found->token);
+    if (begin > size || at > size - begin || length > size - begin - at) {
+        PyErr_SetString(PyExc_ValueError, "an answer about other bytes");
+        return NULL;
+    }
+    const char *first = PyBytes_AsString(found->token) + begin + at;
+    if (form == TEXT)
+        return PyUnicode_DecodeUTF8(first, (Py_ssize_t)length, NULL);
+    if (length < size || !PyBytes_CheckExact(found->token))
+        return PyBytes_FromStringAndSize(first, (Py_ssize_t)length);
+    Py_INCREF(found->token);
+    return found->token;
+}
+
+static PyObject *number_of(const struct cose_date *date)
+{
+    PyObject *number = PyLong_FromUnsignedLongLong(date->number);
+    if (number == NULL || !date->negative)
+        return number;
+    PyObject *negative = PyNumber_Invert(number);
+    Py_DECREF(number);
+    return negative;
+}
+
+/* What a field has, which is None where the claim isn't there. */
+static PyObject *value_of(const struct found *found, const struct place *place)
+{
+    const void *at = (const char *)&found->claims + place->at;
+    const struct cose_range *range = at;
+    const struct cose_date *date = at;
+    if (place->form == PAYLOAD)
+        return part_of(found, 0, found->claims.payload_length, PAYLOAD);
+    if (!(place->form == DATE ? date->present : range->present))
+        Py_RETURN_NONE;
+    return place->form == DATE ? number_of(date) : part_of(found, range->at, range->length, place->form);
+}
+
+/* A field of an object, which is read where it is asked for first; of a class, what it is by default, if anything. */
+static PyObject *field_get(PyObject *self, PyObject *claims, PyObject *kind)
+{
+    const struct field *field = (const struct field *)self;
+    const struct place *place = &places[field->number];
+    struct found *found = (struct found *)claims;
+    (void)kind;
+    if (field->owner == NULL || (claims != NULL && !PyObject_TypeCheck(claims, field->owner))) {
+        PyErr_SetString(PyExc_TypeError, "a field of other objects");
+        return NULL;
+    }
+    if (claims == NULL && place->form != PAYLOAD)
+        Py_RETURN_NONE;
+    if (claims == NULL || found->token == NULL) {
+        PyErr_SetString(PyExc_AttributeError, place->name);
+        return NULL;
+    }
+    PyObject **read = &found->read[field->number];
+    if (*read == NULL)
+        *read = value_of(found, place);
+    Py_XINCREF(*read);
+    return *read;
+}
+
+static void field_dealloc(PyObject *self)
+{
+    Py_CLEAR(((struct field *)self)->owner);
+    free_object(self);
+}
+
+static PyType_Slot field_slots[] = {
+    {Py_tp_dealloc, field_dealloc},
+    {Py_tp_descr_get, field_get},
+    {0, NULL},
+};
+
+static PyType_Spec field_spec = {
+    .name = "cose._extension.Field",
+    .basicsize = sizeof(struct field),
+    .flags = Py_TPFLAGS_DEFAULT,
+    .slots = field_slots,
+};
+
+static PyObject *field(PyObject *module, PyObject *arguments)
+{
+    const struct classes *classes = PyModule_GetState(module);
+    const char *name;
+    size_t number = 0;
+    if (!PyArg_ParseTuple(arguments, "s:field", &name))
+        return NULL;
+    while (number < FIELDS && strcmp(places[number].name, name) != 0)
+        number++;
+    if (number == FIELDS)
+        return PyErr_Format(PyExc_KeyError, "%s", name);
+    struct field *made = (struct field *)PyType_GenericAlloc(classes->field, 0);
+    if (made != NULL) {
+        Py_INCREF(classes->found);
+        made->owner = classes->found;
+        made->number = number;
+    }
+    return (PyObject *)made;
+}
+
+/* Whether it is a class of Found's, whose objects are known to the collector of cycles. */
+static int is_class_of_found(const struct classes *classes, PyTypeObject *kind)
+{
+    if (PyType_IsSubtype(kind, classes->found) && PyType_HasFeature(kind, Py_TPFLAGS_HAVE_GC))
+        return 1;
+    PyErr_SetString(PyExc_TypeError, "it should be a class derived from Found");
+    return 0;
+}
+
+/* An object of a class of Found's. It refers to bytes and texts alone, so that it is in no cycle, and the collector
+ * need not look at it again and again. */
+static PyObject *made_of(PyTypeObject *kind, PyObject *token, const struct cose_claims_set *claims)
+{
+    struct found *found = (struct found *)PyType_GenericAlloc(kind, 0);
+    if (found != NULL) {
+        Py_INCREF(token);
+        found->token = token;
+        found->claims = *claims;
+        PyObject_GC_UnTrack(found);
+    }
+    return (PyObject *)found;
+}
+
+static PyObject *made(PyObject *module, PyObject *arguments)
+{
+    struct cose_claims_set claims;
+    PyTypeObject *kind;
+    PyObject *token, *answer;
+    if (!PyArg_ParseTuple(arguments, "O!SS:made", &PyType_Type, &kind, &token, &answer) ||
+        !is_class_of_found(PyModule_GetState(module), kind) || !to_claims(answer, &claims))
+        return NULL;
+    return made_of(kind, token, &claims);
+}
+
+/* A token, and its claims. */
+struct job {
+    struct slice token;
+    struct cose_claims_set claims;
+};
+
+/* The tokens of a tuple. It returns whether it is no error of Python's. */
+static int to_jobs(PyObject *tokens, struct job *jobs)
 {
     const Py_ssize_t count = PyTuple_Size(tokens);
     for (Py_ssize_t i = 0; i < count; i++) {
         PyObject *token = PyTuple_GetItem(tokens, i);
-        PyObject *answer = PyBytes_FromStringAndSize(NULL, sizeof(struct cose_claims_set));
-        if (answer == NULL || PyTuple_SetItem(answers, i, answer) != 0)
-            return 0;
-        jobs[i].claims = (void *)PyBytes_AsString(answer);
         jobs[i].token.at = PyBytes_AsString(token);
         if (jobs[i].token.at == NULL)
             return 0;
@@ -208,34 +487,59 @@ static int to_jobs(PyObject *tokens, PyObject *answers, struct job *jobs)
     return 1;
 }
 
+static int append_number(PyObject *list, Py_ssize_t number)
+{
+    PyObject *object = PyLong_FromSsize_t(number);
+    const int is_there = object != NULL && PyList_Append(list, object) == 0;
+    Py_XDECREF(object);
+    return is_there;
+}
+
+/* What each token of a tuple gives, and the places of those that aren't admitted. */
+static PyObject *answers_of(PyObject *tokens, const struct job *jobs, PyTypeObject *kind)
+{
+    const Py_ssize_t count = PyTuple_Size(tokens);
+    PyObject *answers = PyList_New(count), *others = PyList_New(0);
+    int is_well = answers != NULL && others != NULL;
+    for (Py_ssize_t i = 0; is_well && i < count; i++) {
+        const struct cose_claims_set *claims = &jobs[i].claims;
+        const int is_admitted = claims->status == COSE_AUTHENTIC;
+        PyObject *answer =
+            is_admitted ? made_of(kind, PyTuple_GetItem(tokens, i), claims) : bytes_of(claims, sizeof *claims);
+        is_well = answer != NULL && PyList_SetItem(answers, i, answer) == 0;
+        is_well = is_well && (is_admitted || append_number(others, i));
+    }
+    PyObject *both = is_well ? PyTuple_Pack(2, answers, others) : NULL;
+    Py_XDECREF(answers);
+    Py_XDECREF(others);
+    return both;
+}
+
 static PyObject *table_verify_cwts(PyObject *module, PyObject *arguments)
 {
     struct cose_table table;
     struct slice aad, audience;
-    PyObject *tokens;
+    PyTypeObject *kind;
+    PyObject *tokens, *answers = NULL;
     long long now;
     unsigned leeway;
     void *block;
-    (void)module;
-    if (!PyArg_ParseTuple(arguments, "O&y#LIz#O!:table_verify_cwts", to_address, &block, PARSED(aad), &now, &leeway,
-                          PARSED(audience), &PyTuple_Type, &tokens))
+    if (!PyArg_ParseTuple(arguments, "O&y#LIz#O!O!:table_verify_cwts", to_address, &block, PARSED(aad), &now, &leeway,
+                          PARSED(audience), &PyTuple_Type, &tokens, &PyType_Type, &kind) ||
+        !is_class_of_found(PyModule_GetState(module), kind))
         return NULL;
     table.at = block;
     struct cose_policy policy = policy_of(now, leeway, audience);
     const Py_ssize_t count = PyTuple_Size(tokens);
-    PyObject *answers = PyTuple_New(count);
     struct job *jobs = PyMem_Calloc((size_t)count, sizeof *jobs);
-    if (answers != NULL && jobs != NULL && to_jobs(tokens, answers, jobs)) {
+    if (jobs == NULL)
+        return PyErr_NoMemory();
+    if (to_jobs(tokens, jobs)) {
         PyThreadState *thread = PyEval_SaveThread();
-        for (Py_ssize_t i = 0; i < count; i++) {
-            memset(jobs[i].claims, 0, sizeof *jobs[i].claims);
-            cose_table_verify_cwt(&table, PASSED(aad), &policy, PASSED(jobs[i].token), jobs[i].claims);
-        }
+        for (Py_ssize_t i = 0; i < count; i++)
+            cose_table_verify_cwt(&table, PASSED(aad), &policy, PASSED(jobs[i].token), &jobs[i].claims);
         PyEval_RestoreThread(thread);
-    } else {
-        if (jobs == NULL)
-            PyErr_NoMemory();
-        Py_CLEAR(answers);
+        answers = answers_of(tokens, jobs, kind);
     }
     PyMem_Free(jobs);
     return answers;
@@ -328,16 +632,61 @@ static PyMethodDef calls[] = {
     {"table_admit", table_admit, METH_VARARGS, "cose_table_admit, under the bytes of struct cose_requirements."},
     {"verify_cwt", verify_cwt, METH_VARARGS, "cose_verify_cwt, or cose_large_verify_cwt."},
     {"table_verify_cwt", table_verify_cwt, METH_VARARGS, "cose_table_verify_cwt."},
-    {"table_verify_cwts", table_verify_cwts, METH_VARARGS, "cose_table_verify_cwt of each token of a tuple."},
+    {"table_verify_cwts", table_verify_cwts, METH_VARARGS,
+     "cose_table_verify_cwt of each token of a tuple: what each gives, and which aren't admitted."},
+    {"field", field, METH_VARARGS, "What reads a field with one value."},
+    {"made", made, METH_VARARGS, "An object of a class, of a token or a payload and the library's answer about it."},
     {"feed", feed, METH_VARARGS, "cose_feed, or cose_large_feed."},
     {"items", items, METH_VARARGS, "Items of a sequence from a place on, so many at most."},
     {NULL, NULL, 0, NULL},
 };
 
+/* A class of this module. */
+static PyTypeObject *added(PyObject *module, PyType_Spec *spec)
+{
+    PyObject *made = PyType_FromSpec(spec);
+    if (made != NULL && PyModule_AddType(module, (PyTypeObject *)made) != 0)
+        Py_CLEAR(made);
+    return (PyTypeObject *)made;
+}
+
+static int add_classes(PyObject *module)
+{
+    struct classes *classes = PyModule_GetState(module);
+    classes->found = added(module, &found_spec);
+    classes->field = added(module, &field_spec);
+    return classes->found != NULL && classes->field != NULL ? 0 : -1;
+}
+
+static int visit_classes(PyObject *module, visitproc visit, void *arg)
+{
+    struct classes *classes = PyModule_GetState(module);
+    Py_VISIT(classes->found);
+    Py_VISIT(classes->field);
+    return 0;
+}
+
+static int clear_classes(PyObject *module)
+{
+    struct classes *classes = PyModule_GetState(module);
+    Py_CLEAR(classes->found);
+    Py_CLEAR(classes->field);
+    return 0;
+}
+
+static PyModuleDef_Slot module_slots[] = {
+    {Py_mod_exec, add_classes},
+    {0, NULL},
+};
+
 static struct PyModuleDef definition = {
     .m_base = PyModuleDef_HEAD_INIT,
     .m_name = "cose._extension",
+    .m_size = sizeof(struct classes),
     .m_methods = calls,
+    .m_slots = module_slots,
+    .m_traverse = visit_classes,
+    .m_clear = clear_classes,
 };
 
 PyMODINIT_FUNC PyInit__extension(void)

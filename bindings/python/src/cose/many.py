@@ -12,12 +12,12 @@ from ._arguments import Buffer, bytes_of
 from ._library import ClaimsStruct, Status
 from .errors import Refused, SignatureUnverified
 from .keys import Keys, KeyTable, data_of
-from .tokens import Claims, claims_of, policy_of, verify_cwt
+from .tokens import Claims, policy_of, verify_cwt
 
 Answer = Union[Claims, Refused, SignatureUnverified]
 # tokens that are verified in one call, during which other threads run
 _BATCH = 256
-_AUTHENTIC, _SIGNED = Status.AUTHENTIC.value, Status.SIGNED.value
+_SIGNED = Status.SIGNED.value
 
 
 def _batches(tokens: Union[Buffer, Iterable[Buffer]]) -> Iterator[Tuple[bytes, ...]]:
@@ -81,11 +81,11 @@ def verify_many(
         given = {"leeway": leeway, "audience": audience, "aad": external, "ecdsa": ecdsa}
         return verify_cwt(table, token, now=policy[0], **given)  # type: ignore[arg-type]
 
+    block = table._block
     for batch in _batches(tokens):
-        with table._block:
-            found = _calls.table_verify_cwts(table._block.at, external, *policy, batch)
-        answers += [
-            claims_of(it, of_it) if of_it[0] == _AUTHENTIC else _answer(it, of_it, by_itself)
-            for it, of_it in zip(batch, found)
-        ]
+        with block:
+            found, others = _calls.table_verify_cwts(block.at, external, *policy, batch, Claims)
+        for place in others:
+            found[place] = _answer(batch[place], found[place], by_itself)
+        answers += found
     return answers
