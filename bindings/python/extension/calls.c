@@ -442,8 +442,8 @@ static int is_class_of_found(const struct classes *classes, PyTypeObject *kind)
     return 0;
 }
 
-/* An object of a class of Found's. It refers to bytes and texts alone, so that it is in no cycle, and the collector
- * need not look at it again and again. */
+/* An object of a class of Found's. It refers to bytes and texts alone, and claims are frozen: it is in no cycle, and
+ * the collector need not visit each of many again and again. */
 static PyObject *made_of(PyTypeObject *kind, PyObject *token, const struct cose_claims_set *claims)
 {
     struct found *found = (struct found *)PyType_GenericAlloc(kind, 0);
@@ -531,13 +531,15 @@ static PyObject *table_verify_cwts(PyObject *module, PyObject *arguments)
     table.at = block;
     struct cose_policy policy = policy_of(now, leeway, audience);
     const Py_ssize_t count = PyTuple_Size(tokens);
-    struct job *jobs = PyMem_Calloc((size_t)count, sizeof *jobs);
+    struct job *jobs = PyMem_New(struct job, (size_t)count);
     if (jobs == NULL)
         return PyErr_NoMemory();
     if (to_jobs(tokens, jobs)) {
         PyThreadState *thread = PyEval_SaveThread();
-        for (Py_ssize_t i = 0; i < count; i++)
+        for (Py_ssize_t i = 0; i < count; i++) {
+            memset(&jobs[i].claims, 0, sizeof jobs[i].claims);
             cose_table_verify_cwt(&table, PASSED(aad), &policy, PASSED(jobs[i].token), &jobs[i].claims);
+        }
         PyEval_RestoreThread(thread);
         answers = answers_of(tokens, jobs, kind);
     }

@@ -23,8 +23,7 @@ Reader = Callable[..., Numbers]
 class Found:
     """The bytes of a token or of a payload, and those of the library's answer about it."""
 
-    _token: bytes = b""
-    _found: bytes = b""
+    _token = _found = b""
 
 
 _F = TypeVar("_F", bound=Found)
