@@ -7,7 +7,7 @@ import sys
 import threading
 import time
 import unittest
-from typing import Any, Callable, Iterator, List, Tuple
+from typing import Any, Callable, Dict, Iterator, List, Tuple
 
 import cose
 from cose import _by_ctypes, _calls, _fields, cbor
@@ -27,8 +27,9 @@ ITEMS = REPOSITORY / "rows" / "items.json"
 # first bytes of items, short and long, definite and not
 HEADS = bytes.fromhex("0018191a1b1f2038404142585b5f606178808182989b9fa0a1b8bbbfc0d8dbe0f7f8f9fbff")
 VERDICT, CLAIMS, FED = reader(VerdictStruct), reader(ClaimsStruct), reader(FedStruct)
-# the fields with one value
+# the fields with one value, and the labels of those after the first
 FIELDS = ("payload", "iss", "sub", "exp", "nbf", "iat", "cti")
+LABELS = (1, 2, 4, 5, 6, 7)
 
 
 def messages() -> Iterator[bytes]:
@@ -168,6 +169,7 @@ class Fields(unittest.TestCase):
     def test_values(self) -> None:
         least, most = -(2**64), 2**64 - 1
         kinds = [(way, kind_of(way)) for way in (_extension, _fields)]
+        claims: Dict[int, Any]
         for claims in (
             {},
             {1: "i", 2: "", 4: most, 5: least, 6: -1, 7: b""},
@@ -178,8 +180,7 @@ class Fields(unittest.TestCase):
                 found = _calls.verify_cwt(KEYS, False, b"", 0, 0, None, token)
                 of_c, of_python = (way.made(kind, token, found) for way, kind in kinds)
                 self.assertEqual(all_fields(of_c), all_fields(of_python))
-                wanted = [payload, *(claims.get(it) for it in (1, 2, 4, 5, 6, 7))]  # type: ignore[attr-defined]
-                self.assertEqual(all_fields(of_c), wanted)
+                self.assertEqual(all_fields(of_c), [payload, *map(claims.get, LABELS)])
                 for one, other in zip(all_fields(of_c), all_fields(of_c)):
                     self.assertIs(one, other)
                 self.assertEqual((of_c._token, of_c._found), (token, found))
