@@ -183,10 +183,23 @@ static PyObject *table_admit(PyObject *module, PyObject *arguments)
     return bytes_of(&claims, sizeof claims);
 }
 
+/* Where a part of the payload lies in it. Where it isn't there, each bit of its length is set. */
+struct span {
+    uint64_t at, length;
+};
+
+/* What an answer says of claims without a confirmed key, in half as many bytes: where many tokens are verified, most of
+ * the time under Python's lock is that of memory. */
+struct brief {
+    struct span payload, iss, sub, aud, cti;
+    uint64_t aud_count;
+    struct cose_date exp, nbf, iat;
+};
+
 /* The forms of a field of claims. */
 enum form { PAYLOAD, TEXT, BYTES, DATE };
 
-/* A field of claims with one value: its form, and its place in the struct. */
+/* A field of claims with one value: its form, and its place. */
 struct place {
     const char *name;
     enum form form;
@@ -194,24 +207,24 @@ struct place {
 };
 
 static const struct place places[] = {
-    {"payload", PAYLOAD, offsetof(struct cose_claims_set, payload_at)},
-    {"iss", TEXT, offsetof(struct cose_claims_set, iss)},
-    {"sub", TEXT, offsetof(struct cose_claims_set, sub)},
-    {"exp", DATE, offsetof(struct cose_claims_set, exp)},
-    {"nbf", DATE, offsetof(struct cose_claims_set, nbf)},
-    {"iat", DATE, offsetof(struct cose_claims_set, iat)},
-    {"cti", BYTES, offsetof(struct cose_claims_set, cti)},
+    {"payload", PAYLOAD, offsetof(struct brief, payload)},
+    {"iss", TEXT, offsetof(struct brief, iss)},
+    {"sub", TEXT, offsetof(struct brief, sub)},
+    {"exp", DATE, offsetof(struct brief, exp)},
+    {"nbf", DATE, offsetof(struct brief, nbf)},
+    {"iat", DATE, offsetof(struct brief, iat)},
+    {"cti", BYTES, offsetof(struct brief, cti)},
 };
 
 enum { FIELDS = sizeof places / sizeof *places };
 
-/* An object of the class Found, or of one derived from it: the bytes of a token or of a payload, the fields that were
- * read, and the library's answer. */
+/* An object of the class Found, or of one derived from it: the bytes of a token or of a payload, the library's answer
+ * where it has more than the brief one, and the fields that were read. */
 struct found {
     PyObject ob_base;
-    PyObject *token;
+    PyObject *token, *whole;
     PyObject *read[FIELDS];
-    struct cose_claims_set claims;
+    struct brief brief;
 };
 
 /* An object of the class Field: what reads a field of the objects of a class. */
@@ -246,7 +259,56 @@ static void found_dealloc(PyObject *self)
     struct found *found = (struct found *)self;
     forget(found);
     Py_CLEAR(found->token);
+    Py_CLEAR(found->whole);
     free_object(self);
+}
+
+static struct span span_of(const struct cose_range *range)
+{
+    return (struct span){range->at, range->present ? range->length : UINT64_MAX};
+}
+
+static struct cose_range range_of(const struct span *span)
+{
+    const int present = span->length != UINT64_MAX;
+    return (struct cose_range){.at = span->at, .length = present ? span->length : 0, .present = (uint8_t)present};
+}
+
+static int has_more(const struct cose_claims_set *claims)
+{
+    return claims->status != COSE_AUTHENTIC || claims->cnf_crv != 0 || claims->cnf_kid.present;
+}
+
+static struct brief brief_of(const struct cose_claims_set *claims)
+{
+    return (struct brief){
+        .payload = {claims->payload_at, claims->payload_length},
+        .iss = span_of(&claims->iss),
+        .sub = span_of(&claims->sub),
+        .aud = span_of(&claims->aud),
+        .cti = span_of(&claims->cti),
+        .aud_count = claims->aud_count,
+        .exp = claims->exp,
+        .nbf = claims->nbf,
+        .iat = claims->iat,
+    };
+}
+
+static struct cose_claims_set claims_of(const struct brief *brief)
+{
+    return (struct cose_claims_set){
+        .status = COSE_AUTHENTIC,
+        .payload_at = brief->payload.at,
+        .payload_length = brief->payload.length,
+        .iss = range_of(&brief->iss),
+        .sub = range_of(&brief->sub),
+        .aud = range_of(&brief->aud),
+        .cti = range_of(&brief->cti),
+        .aud_count = brief->aud_count,
+        .exp = brief->exp,
+        .nbf = brief->nbf,
+        .iat = brief->iat,
+    };
 }
 
 static PyObject *get_token(PyObject *self, void *closure)
@@ -263,7 +325,14 @@ static PyObject *get_answer(PyObject *self, void *closure)
 {
     const struct found *found = (const struct found *)self;
     (void)closure;
-    return bytes_of(&found->claims, found->token != NULL ? sizeof found->claims : 0);
+    if (found->token == NULL)
+        return bytes_of("", 0);
+    if (found->whole == NULL) {
+        const struct cose_claims_set claims = claims_of(&found->brief);
+        return bytes_of(&claims, sizeof claims);
+    }
+    Py_INCREF(found->whole);
+    return found->whole;
 }
 
 static int is_bytes(PyObject *value)
@@ -274,20 +343,27 @@ static int is_bytes(PyObject *value)
     return 0;
 }
 
+/* Puts an object into the place of another one. */
+static void replace(PyObject **place, PyObject *object)
+{
+    PyObject *former = *place;
+    Py_XINCREF(object);
+    *place = object;
+    Py_XDECREF(former);
+}
+
 static int set_token(PyObject *self, PyObject *value, void *closure)
 {
     struct found *found = (struct found *)self;
-    PyObject *former = found->token;
     (void)closure;
     if (!is_bytes(value))
         return -1;
     forget(found);
-    Py_INCREF(value);
-    found->token = value;
-    Py_XDECREF(former);
+    replace(&found->token, PyBytes_Size(value) != 0 ? value : NULL);
     return 0;
 }
 
+/* The struct in the bytes of an answer. No bytes are none. */
 static int to_claims(PyObject *bytes, struct cose_claims_set *claims)
 {
     const Py_ssize_t length = PyBytes_Size(bytes);
@@ -303,10 +379,13 @@ static int to_claims(PyObject *bytes, struct cose_claims_set *claims)
 static int set_answer(PyObject *self, PyObject *value, void *closure)
 {
     struct found *found = (struct found *)self;
+    struct cose_claims_set claims;
     (void)closure;
-    if (!is_bytes(value) || !to_claims(value, &found->claims))
+    if (!is_bytes(value) || !to_claims(value, &claims))
         return -1;
     forget(found);
+    found->brief = brief_of(&claims);
+    replace(&found->whole, has_more(&claims) ? value : NULL);
     return 0;
 }
 
@@ -330,19 +409,20 @@ static PyType_Spec found_spec = {
     .slots = found_slots,
 };
 
-/* A range of the payload, which an answer about these bytes has. Where it is all of them, nothing is copied. */
-static PyObject *part_of(const struct found *found, uint64_t at, uint64_t length, enum form form)
+/* A part of the payload, or all of it. Where it is all of the bytes, nothing is copied. */
+static PyObject *part_of(const struct found *found, const struct span *span, enum form form)
 {
-    const uint64_t begin = found->claims.payload_at, size = (uint64_t)PyBytes_Size(found->token);
-    if (begin > size || at > size - begin || length > size - begin - at) {
+    const uint64_t size = (uint64_t)PyBytes_Size(found->token);
+    const uint64_t payload = form != PAYLOAD ? found->brief.payload.at : 0;
+    if (payload > size || span->at > size - payload || span->length > size - payload - span->at) {
         PyErr_SetString(PyExc_ValueError, "an answer about other bytes");
         return NULL;
     }
-    const char *first = PyBytes_AsString(found->token) + begin + at;
+    const char *first = PyBytes_AsString(found->token) + payload + span->at;
     if (form == TEXT)
-        return PyUnicode_DecodeUTF8(first, (Py_ssize_t)length, NULL);
-    if (length < size || !PyBytes_CheckExact(found->token))
-        return PyBytes_FromStringAndSize(first, (Py_ssize_t)length);
+        return PyUnicode_DecodeUTF8(first, (Py_ssize_t)span->length, NULL);
+    if (span->length < size || !PyBytes_CheckExact(found->token))
+        return PyBytes_FromStringAndSize(first, (Py_ssize_t)span->length);
     Py_INCREF(found->token);
     return found->token;
 }
@@ -360,14 +440,12 @@ static PyObject *number_of(const struct cose_date *date)
 /* What a field has, which is None where the claim isn't there. */
 static PyObject *value_of(const struct found *found, const struct place *place)
 {
-    const void *at = (const char *)&found->claims + place->at;
-    const struct cose_range *range = at;
+    const void *at = (const char *)&found->brief + place->at;
+    const struct span *span = at;
     const struct cose_date *date = at;
-    if (place->form == PAYLOAD)
-        return part_of(found, 0, found->claims.payload_length, PAYLOAD);
-    if (!(place->form == DATE ? date->present : range->present))
+    if (place->form == DATE ? !date->present : span->length == UINT64_MAX)
         Py_RETURN_NONE;
-    return place->form == DATE ? number_of(date) : part_of(found, range->at, range->length, place->form);
+    return place->form == DATE ? number_of(date) : part_of(found, span, place->form);
 }
 
 /* A field of an object, which is read where it is asked for first; of a class, what it is by default, if anything. */
@@ -446,14 +524,16 @@ static int is_class_of_found(const struct classes *classes, PyTypeObject *kind)
  * the collector need not visit each of many again and again. */
 static PyObject *made_of(PyTypeObject *kind, PyObject *token, const struct cose_claims_set *claims)
 {
-    struct found *found = (struct found *)PyType_GenericAlloc(kind, 0);
-    if (found != NULL) {
-        Py_INCREF(token);
-        found->token = token;
-        found->claims = *claims;
-        PyObject_GC_UnTrack(found);
-    }
-    return (PyObject *)found;
+    PyObject *made = PyType_GenericAlloc(kind, 0);
+    struct found *found = (struct found *)made;
+    if (made == NULL)
+        return NULL;
+    replace(&found->token, token);
+    found->brief = brief_of(claims);
+    PyObject_GC_UnTrack(made);
+    if (has_more(claims) && (found->whole = bytes_of(claims, sizeof *claims)) == NULL)
+        Py_CLEAR(made);
+    return made;
 }
 
 static PyObject *made(PyObject *module, PyObject *arguments)

@@ -200,7 +200,7 @@ class Fields(unittest.TestCase):
         token = mac0(cbor.encode({2: "s", 7: b"c"}))
         found = _extension.verify_cwt(KEYS, False, b"", 0, 0, None, token)
         for it in (token[:10], b"", found):
-            made = _extension.made(kind, it, found[:9] + b"\xff" * 63 + found[72:])
+            made = _extension.made(kind, it, found[:9] + b"\xfe" * 63 + found[72:])
             for name in ("payload", "iss"):
                 with self.assertRaises(ValueError):
                     getattr(made, name)
