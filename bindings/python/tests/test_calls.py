@@ -173,6 +173,7 @@ class Fields(unittest.TestCase):
         for claims in (
             {},
             {1: "i", 2: "", 4: most, 5: least, 6: -1, 7: b""},
+            {3: ["a", "b"], 8: {3: b"k"}},
             {2: "\u00e9\U0001f600" * 1_000, 4: 0, 6: 24, 7: bytes(70_000)},
         ):
             payload = cbor.encode(claims)
@@ -183,7 +184,8 @@ class Fields(unittest.TestCase):
                 self.assertEqual(all_fields(of_c), [payload, *map(claims.get, LABELS)])
                 for one, other in zip(all_fields(of_c), all_fields(of_c)):
                     self.assertIs(one, other)
-                self.assertEqual((of_c._token, of_c._found), (token, found))
+                self.assertIs(of_c._token, token)
+                self.assertEqual(CLAIMS(of_c._found), CLAIMS(found))
         for _, kind in kinds:
             self.assertEqual([getattr(kind, name) for name in FIELDS[1:]], [None] * 6)
             with self.assertRaisesRegex(AttributeError, "payload"):
