@@ -174,7 +174,7 @@ class Fields(unittest.TestCase):
             {},
             {1: "i", 2: "", 4: most, 5: least, 6: -1, 7: b""},
             {3: ["a", "b"], 8: {3: b"k"}},
-            {2: "\u00e9\U0001f600" * 1_000, 4: 0, 6: 24, 7: bytes(70_000)},
+            {2: "\u00e9\U0001f600" * 1_000, 4: 24, 6: 0, 7: bytes(70_000)},
         ):
             payload = cbor.encode(claims)
             for token in (mac0(payload), b"\xd8\x3d" + mac0(payload)):
