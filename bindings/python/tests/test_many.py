@@ -54,6 +54,8 @@ class Many(unittest.TestCase):
             good = [number for number in range(count) if number % 7 != 6 and number % 11 != 10]
             self.assertEqual([it.sub for it in admitted], [f"user {number}" for number in good])
             self.each(tokens, iter(tokens))
+            self.each(tokens, tuple(tokens))
+            self.each(tokens, [*map(memoryview, tokens[:300]), *map(bytearray, tokens[300:])])
             self.each(tokens, map(bytearray, tokens))
             self.each(tokens, keys=cose.KeyTable(KEYS))
 
@@ -157,6 +159,19 @@ class Many(unittest.TestCase):
         for it in (tokens, iter(tokens), b"".join(tokens)):
             self.each(tokens, it, keys=keys, ecdsa=ecdsa)
             self.each(tokens, keys=keys)
+
+    def test_appended(self) -> None:
+        """What is appended to a list after its last batch was taken isn't looked at, as in a loop over it."""
+        protected, _ = sign1_parts(b"", -7)
+        signed = sign1(cbor.encode({2: "s"}), protected, bytes(64))
+        tokens = [signed]
+
+        def ecdsa(_: cose.SignInput) -> bool:
+            tokens.append(signed)
+            return True
+
+        self.assertEqual(len(cose.verify_many(SIGN1_KEYS, tokens, ecdsa=ecdsa)), 1)
+        self.assertEqual(len(tokens), 2)
 
     def test_reentry(self) -> None:
         """A function that is asked may verify many tokens under the same table."""

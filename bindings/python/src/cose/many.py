@@ -4,7 +4,7 @@ from __future__ import annotations
 
 import itertools
 import mmap
-from typing import Callable, Iterable, Iterator, List, Optional, Tuple, Union
+from typing import Any, Callable, Iterable, Iterator, List, Optional, Sequence, Tuple, Union, cast
 
 from . import _calls
 from ._answers import Ecdsa, error_of
@@ -24,8 +24,21 @@ def _batches(tokens: Union[Buffer, Iterable[Buffer]]) -> Iterator[Tuple[bytes, .
     """The tokens, so many at a time as one call takes."""
     if isinstance(tokens, (bytes, bytearray, memoryview, mmap.mmap)):
         return _batches_of_sequence(bytes_of(tokens, "tokens"))
+    if type(tokens) in (list, tuple):
+        return _batches_of_list(cast(Sequence[Any], tokens))
     each = iter(tokens)
     return iter(lambda: tuple(map(_token, itertools.islice(each, _BATCH))), ())
+
+
+def _batches_of_list(tokens: Sequence[Any]) -> Iterator[Tuple[bytes, ...]]:
+    """Those of a list or of a tuple, of which a batch is looked at at once."""
+    for at in itertools.count(0, _BATCH):
+        batch = tokens[at : at + _BATCH]
+        if batch:
+            yield tuple(batch) if {*map(type, batch)} == {bytes} else tuple(map(_token, batch))
+        # (as an iterator ends, whatever is appended after that)
+        if len(batch) < _BATCH:
+            return
 
 
 def _token(token: Buffer) -> bytes:
