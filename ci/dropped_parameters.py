@@ -23,7 +23,7 @@ SIGNED = "verify(keys, data, aad=external, wanted=wanted, ecdsa=ecdsa, large=lar
 GIVEN = "policy_of(now, leeway, audience)"
 POLICY = 'return moment, number_of(leeway, "leeway", 0, 2**32 - 1), name'
 BY_ITSELF = '{"leeway": leeway, "audience": audience, "aad": external, "ecdsa": ecdsa}'
-TABLE = "table_verify_cwts(table._block.at, external, *policy, batch)"
+TABLE = "table_verify_cwts(block.at, external, *policy, batch, Claims)"
 MAKER = "Maker(key, len(data), alg=alg, kid=kid, aad=aad)"
 # the arguments of admitting.py, which two calls each pass on by their places
 REQUIRED = ("now", "leeway", "issuer", "subject", "audience", "present", "max_lifetime", "max_age", "without_exp")

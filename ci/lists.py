@@ -169,6 +169,8 @@ PLACES = {
             "bindings/js/tests/rows.mjs bindings/go/rows_test.go ci/rows ci/second_reading.py ci/second_program.py "
             "docs/COMMANDS.md docs/PROVED.md docs/USING.md",
         ),
+        Places("claim", of_claim, "bindings/python/extension/calls.c"),
+        Places("claim", of_claim, "bindings/python/src/cose/_fields.py", "aud cnf"),
         Places("claim", in_capitals, "crates/cose_cwt/src/claims/labels.rt crates/cose_cwt/src/claims/form.rt"),
         Places(
             "claim",

@@ -1,14 +1,16 @@
 """The calls that are made most, by the extension and by ctypes."""
 
+import gc
 import json
 import random
+import sys
 import threading
 import time
 import unittest
-from typing import Any, Callable, Iterable, Iterator, List, Tuple
+from typing import Any, Callable, Dict, Iterator, List, Tuple
 
 import cose
-from cose import _by_ctypes, _calls, cbor
+from cose import _by_ctypes, _calls, _fields, cbor
 from cose._library import Block, ClaimsStruct, FedStruct, SignInputStruct, VerdictStruct, small
 from cose._numbers import reader
 from support import EXAMPLES, KEYS, REPOSITORY, mac0
@@ -25,6 +27,9 @@ ITEMS = REPOSITORY / "rows" / "items.json"
 # first bytes of items, short and long, definite and not
 HEADS = bytes.fromhex("0018191a1b1f2038404142585b5f606178808182989b9fa0a1b8bbbfc0d8dbe0f7f8f9fbff")
 VERDICT, CLAIMS, FED = reader(VerdictStruct), reader(ClaimsStruct), reader(FedStruct)
+# the fields with one value, and the labels of those after the first
+FIELDS = ("payload", "iss", "sub", "exp", "nbf", "iat", "cti")
+LABELS = (1, 2, 4, 5, 6, 7)
 
 
 def messages() -> Iterator[bytes]:
@@ -41,9 +46,13 @@ def verdict_of(found: bytes) -> Tuple[Any, ...]:
     return numbers, bytes(signed.digest), bytes(signed.signature), bytes(signed.x), signed.y_sign
 
 
-def all_claims(found: Iterable[bytes]) -> List[Tuple[int, ...]]:
-    """The numbers of answers to tokens."""
-    return [CLAIMS(it) for it in found]
+def kind_of(way: Any) -> Any:
+    """A class with the fields with one value."""
+    return type("Kind", (way.Found,), {name: way.field(name) for name in FIELDS})
+
+
+def all_fields(found: Any) -> List[Any]:
+    return [getattr(found, name) for name in FIELDS]
 
 
 @unittest.skipUnless(_extension, "the extension isn't built")
@@ -91,10 +100,20 @@ class Same(unittest.TestCase):
                 self.same("verify_cwt", CLAIMS, KEYS, True, b"a", *policy, token)
                 self.same("table_verify_cwt", CLAIMS, at, b"", *policy, token)
             for some in ((), tokens[:1], tokens, tokens * 100):
-                many = self.same("table_verify_cwts", all_claims, at, b"", *policy, some)
                 each = [_by_ctypes.table_verify_cwt(at, b"", *policy, it) for it in some]
-                self.assertEqual(many, all_claims(each))
+                self.each_of_many(each, at, b"", *policy, some)
         del table
+
+    def each_of_many(self, each: List[bytes], *given: Any) -> None:
+        """A call for many tokens gives these answers: as bytes, and of one that is admitted in an object."""
+        refused = [place for place, it in enumerate(each) if it[0] != cose.Status.AUTHENTIC]
+        for way, kind in ((_extension, kind_of(_extension)), (_by_ctypes, kind_of(_fields))):
+            answers, others = way.table_verify_cwts(*given, kind)
+            self.assertEqual(others, refused)
+            for place, answer in enumerate(answers):
+                self.assertIs(type(answer), bytes if place in refused else kind)
+            found = [getattr(it, "_found", it) for it in answers]
+            self.assertEqual([CLAIMS(it) for it in found], [CLAIMS(it) for it in each])
 
     def test_feed(self) -> None:
         message = mac0(b"what is said" * 1_000)
@@ -135,12 +154,124 @@ class Same(unittest.TestCase):
             with self.assertRaises(TypeError):
                 _extension.verify(wrong, False, b"", 0, TOKEN)  # type: ignore[arg-type]
             with self.assertRaises(TypeError):
-                tokens = (TOKEN, wrong)
-                _extension.table_verify_cwts(self.table(KEYS)[1], b"", 8, 0, None, tokens)  # type: ignore[arg-type]
+                given = (self.table(KEYS)[1], b"", 8, 0, None, (TOKEN, wrong))
+                _extension.table_verify_cwts(*given, kind_of(_extension))  # type: ignore[arg-type]
         with self.assertRaises(TypeError):
             _extension.verify_cwt(KEYS, False, b"", 8)  # type: ignore[call-arg]
         with self.assertRaises(OverflowError):
             _extension.verify_cwt(KEYS, False, b"", 2**63, 0, None, TOKEN)
+
+
+@unittest.skipUnless(_extension, "the extension isn't built")
+class Fields(unittest.TestCase):
+    """What is read of an answer, by the extension and by Python."""
+
+    def test_values(self) -> None:
+        least, most = -(2**64), 2**64 - 1
+        kinds = [(way, kind_of(way)) for way in (_extension, _fields)]
+        claims: Dict[int, Any]
+        for claims in (
+            {},
+            {1: "i", 2: "", 4: most, 5: least, 6: -1, 7: b""},
+            {3: ["a", "b"], 8: {3: b"k"}},
+            {2: "\u00e9\U0001f600" * 1_000, 4: 24, 6: 0, 7: bytes(70_000)},
+        ):
+            payload = cbor.encode(claims)
+            for token in (mac0(payload), b"\xd8\x3d" + mac0(payload)):
+                found = _calls.verify_cwt(KEYS, False, b"", 0, 0, None, token)
+                of_c, of_python = (way.made(kind, token, found) for way, kind in kinds)
+                self.assertEqual(all_fields(of_c), all_fields(of_python))
+                self.assertEqual(all_fields(of_c), [payload, *map(claims.get, LABELS)])
+                for one, other in zip(all_fields(of_c), all_fields(of_c)):
+                    self.assertIs(one, other)
+                self.assertIs(of_c._token, token)
+                self.assertEqual(CLAIMS(of_c._found), CLAIMS(found))
+        for _, kind in kinds:
+            self.assertEqual([getattr(kind, name) for name in FIELDS[1:]], [None] * 6)
+            with self.assertRaisesRegex(AttributeError, "payload"):
+                kind.payload
+
+    def test_whole_payload(self) -> None:
+        """A payload that is all of the bytes isn't copied."""
+        payload = cbor.encode({2: "s"})
+        self.assertIs(cose.claims(payload, now=0).payload, payload)
+
+    def test_other_bytes(self) -> None:
+        """An answer about other bytes is refused, and nothing beyond them is read."""
+        kind = kind_of(_extension)
+        token = mac0(cbor.encode({2: "s", 7: b"c"}))
+        found = _extension.verify_cwt(KEYS, False, b"", 0, 0, None, token)
+        for it in (token[:10], b"", found):
+            made = _extension.made(kind, it, found[:9] + b"\xfe" * 63 + found[72:])
+            for name in ("payload", "iss"):
+                with self.assertRaises(ValueError):
+                    getattr(made, name)
+        for length in range(len(token)):
+            made = _extension.made(kind, token[:length], found)
+            try:
+                self.assertEqual(made.cti, b"c")
+                self.assertGreater(length, token.index(b"\x41c") + 1)
+            except ValueError:
+                self.assertLess(length, token.index(b"\x41c") + 2)
+
+    def test_attributes(self) -> None:
+        """What is written into an object counts from then on, and is bytes."""
+        kind = kind_of(_extension)
+        first, second = (mac0(cbor.encode({2: it})) for it in ("a", "b"))
+        found = _extension.verify_cwt(KEYS, False, b"", 0, 0, None, first)
+        made = _extension.made(kind, first, found)
+        self.assertEqual(made.sub, "a")
+        made._token = second
+        self.assertEqual(made.sub, "b")
+        made._found = b""
+        self.assertIsNone(made.sub)
+        for name, wrong, error in (
+            ("_token", None, TypeError),
+            ("_found", "a", TypeError),
+            ("_found", found[:-1], ValueError),
+        ):
+            with self.assertRaises(error):
+                setattr(made, name, wrong)
+        with self.assertRaises(TypeError):
+            del made._token
+        new = kind.__new__(kind)
+        self.assertEqual((new._token, new._found), (b"", b""))
+        with self.assertRaisesRegex(AttributeError, "sub"):
+            new.sub
+
+    def test_types(self) -> None:
+        kind = kind_of(_extension)
+        found = _extension.verify_cwt(KEYS, False, b"", 0, 0, None, TOKEN)
+        for given in (
+            (object, TOKEN, found),
+            (_extension.Found, TOKEN, found),
+            ("kind", TOKEN, found),
+            (kind, bytearray(TOKEN), found),
+            (kind, TOKEN, None),
+        ):
+            with self.assertRaises(TypeError):
+                _extension.made(*given)  # type: ignore[arg-type, type-var]
+        with self.assertRaises(ValueError):
+            _extension.made(kind, TOKEN, found + b"\0")
+        with self.assertRaises(KeyError):
+            _extension.field("aud")
+        read = vars(kind)["sub"]
+        for field in (read, type(read)()):
+            with self.assertRaises(TypeError):
+                field.__get__(object())
+
+    @unittest.skipUnless(_calls.IS_BUILT, "all calls are made by ctypes")
+    def test_references(self) -> None:
+        """What was made keeps its token as long as it is there itself, and the collector of cycles passes it by."""
+        table, token = cose.KeyTable(KEYS), mac0(cbor.encode({2: "s"}))
+        held = sys.getrefcount(token)
+        for _ in range(3):
+            answers = cose.verify_many(table, [token, token, token[:-1]])
+            self.assertEqual([getattr(it, "sub", None) for it in answers], ["s", "s", None])
+            self.assertEqual(sys.getrefcount(token), held + 2)
+            self.assertFalse(any(map(gc.is_tracked, answers[:2])))
+            del answers
+            self.assertEqual(sys.getrefcount(token), held)
 
 
 class Others(unittest.TestCase):
@@ -188,7 +319,8 @@ class Others(unittest.TestCase):
         self.lets_others_run(lambda: _calls.verify_cwt(KEYS, False, *given, long_token))
         self.lets_others_run(lambda: _calls.table_verify_cwt(table._block.at, *given, long_token))
         tokens = (TOKEN,) * 20_000
-        self.lets_others_run(lambda: _calls.table_verify_cwts(table._block.at, *given, tokens))
+        kind, at = cose.Claims, table._block.at
+        self.lets_others_run(lambda: _calls.table_verify_cwts(at, *given, tokens, kind))
 
 
 if __name__ == "__main__":

@@ -54,6 +54,8 @@ class Many(unittest.TestCase):
             good = [number for number in range(count) if number % 7 != 6 and number % 11 != 10]
             self.assertEqual([it.sub for it in admitted], [f"user {number}" for number in good])
             self.each(tokens, iter(tokens))
+            self.each(tokens, tuple(tokens))
+            self.each(tokens, [*map(memoryview, tokens[:300]), *map(bytearray, tokens[300:])])
             self.each(tokens, map(bytearray, tokens))
             self.each(tokens, keys=cose.KeyTable(KEYS))
 
@@ -133,6 +135,43 @@ class Many(unittest.TestCase):
 
         with self.assertRaisesRegex(RuntimeError, "a fault of the caller's"):
             cose.verify_many(SIGN1_KEYS, tokens, ecdsa=broken)
+
+    def test_mixed(self) -> None:
+        """Each answer is in its token's place, where tokens of both kinds are next to refused ones."""
+        keys = cbor.encode([cbor.decode(KEYS), cbor.decode(SIGN1_KEYS)])
+        protected, _ = sign1_parts(b"", -7)
+        tokens, asked = [token(number) for number in range(300)], bytearray()
+        subjects = {it: f"user {it}" for it in range(300) if it % 7 != 6 and it % 11 != 10}
+        for place in (0, 3, 6, 7, 254, 255, 256, 257, 299):
+            subjects.pop(place, None)
+            payload = cbor.encode({2: f"signed {place}"})
+            tokens[place] = sign1(payload, protected, bytes([place % 2] * 64))
+        subjects.update({it: f"signed {it}" for it in (3, 7, 255, 257, 299)})
+
+        def ecdsa(given: cose.SignInput) -> bool:
+            asked.append(given.signature[0])
+            return given.signature[0] == 1
+
+        answers = cose.verify_many(keys, tokens, now=NOW, ecdsa=ecdsa)
+        self.assertEqual(asked, bytes([0, 1, 0, 1, 0, 1, 0, 1, 1]))
+        found = {at: it.sub for at, it in enumerate(answers) if isinstance(it, cose.Claims)}
+        self.assertEqual(found, subjects)
+        for it in (tokens, iter(tokens), b"".join(tokens)):
+            self.each(tokens, it, keys=keys, ecdsa=ecdsa)
+            self.each(tokens, keys=keys)
+
+    def test_appended(self) -> None:
+        """What is appended to a list after its last batch was taken isn't looked at, as in a loop over it."""
+        protected, _ = sign1_parts(b"", -7)
+        signed = sign1(cbor.encode({2: "s"}), protected, bytes(64))
+        tokens = [signed]
+
+        def ecdsa(_: cose.SignInput) -> bool:
+            tokens.append(signed)
+            return True
+
+        self.assertEqual(len(cose.verify_many(SIGN1_KEYS, tokens, ecdsa=ecdsa)), 1)
+        self.assertEqual(len(tokens), 2)
 
     def test_reentry(self) -> None:
         """A function that is asked may verify many tokens under the same table."""

@@ -1,9 +1,12 @@
 """CBOR Web Tokens."""
 
+import copy
+import dataclasses
 import pickle
 import threading
 import time
 import unittest
+import weakref
 
 import cose
 from cose import cbor
@@ -63,6 +66,42 @@ class Tokens(unittest.TestCase):
         again = pickle.loads(pickle.dumps(cose.claims(payload, now=0)))
         self.assertEqual((again, hash(again)), (found, hash(found)))
         self.assertEqual(cose.verify_cwt(KEYS, token({3: names})).aud, tuple(names))
+
+    def test_copies(self) -> None:
+        """Claims are copied, and pickled by each protocol, whatever was read of them before."""
+        wanted = cose.verify_cwt(KEYS, token(EXAMPLE), now=NOW)
+        for names in ((), ("sub",), ("payload", "aud", "cnf", "sub")):
+            found = cose.verify_cwt(KEYS, token(EXAMPLE), now=NOW)
+            for name in names:
+                self.assertIs(getattr(found, name), getattr(found, name))
+            copies = [copy.copy(found), copy.deepcopy(found), dataclasses.replace(found)]
+            for protocol in range(pickle.HIGHEST_PROTOCOL + 1):
+                copies += pickle.loads(pickle.dumps([found, copies[-1]], protocol))
+            for it in copies:
+                self.assertEqual((it, hash(it), repr(it)), (wanted, hash(wanted), repr(wanted)))
+            self.assertIs(weakref.ref(found)(), found)
+
+    def test_state(self) -> None:
+        """What is pickled is the same by the extension and by ctypes, where nothing was read."""
+        data = token({2: "s"})
+        found = cose.verify_cwt(KEYS, data)
+        state = found.__getstate__()
+        self.assertEqual(sorted(state), ["_found", "_token"])
+        self.assertEqual(state["_token"], data)
+        made = cose.Claims.__new__(cose.Claims)
+        made.__setstate__({**state, "iss": "i"})
+        self.assertEqual(made, cose.Claims(found.payload, iss="i", sub="s"))
+
+    def test_frozen(self) -> None:
+        found = cose.verify_cwt(KEYS, token({2: "s"}))
+        for name in ("sub", "payload", "_token", "_found", "other"):
+            with self.assertRaises(dataclasses.FrozenInstanceError):
+                setattr(found, name, b"")
+            with self.assertRaises(dataclasses.FrozenInstanceError):
+                delattr(found, name)
+        self.assertEqual(dataclasses.replace(found, sub="t"), cose.Claims(found.payload, sub="t"))
+        with self.assertRaisesRegex(TypeError, "payload"):
+            cose.Claims()  # type: ignore[call-arg]
 
     def test_admission(self) -> None:
         cases = (

@@ -8,9 +8,10 @@ from __future__ import annotations
 
 import itertools
 from ctypes import byref
-from typing import Any, Optional, Tuple
+from typing import Any, List, Optional, Tuple, Type
 
 from . import _library, cbor
+from ._fields import Found, made
 from ._library import (
     ClaimsStruct,
     FedStruct,
@@ -22,6 +23,8 @@ from ._library import (
     VerdictStruct,
     small,
 )
+
+_AUTHENTIC = Status.AUTHENTIC.value
 
 
 def _answer(call: Any, *arguments: object) -> bytes:
@@ -89,11 +92,23 @@ def table_verify_cwts(
     leeway: int,
     audience: Optional[bytes],
     tokens: Tuple[bytes, ...],
+    kind: Type[Found],
     /,
-) -> Tuple[bytes, ...]:
-    """`cose_table_verify_cwt` of each of the tokens"""
-    given = (block, aad, now, leeway, audience)
-    return tuple([table_verify_cwt(*given, token) for token in tokens])
+) -> Tuple[List[Any], List[int]]:
+    """`cose_table_verify_cwt` of each of the tokens: what each gives, and which aren't admitted.
+
+    One that is admitted gives an object of a class, and any other the bytes of its answer.
+    """
+    answers: List[Any] = []
+    others = []
+    for place, token in enumerate(tokens):
+        found = table_verify_cwt(block, aad, now, leeway, audience, token)
+        if found[0] == _AUTHENTIC:
+            answers.append(made(kind, token, found))
+        else:
+            answers.append(found)
+            others.append(place)
+    return answers, others
 
 
 def table_admit(block: int, requirements: bytes, token: bytes, /) -> bytes:

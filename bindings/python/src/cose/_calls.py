@@ -13,8 +13,11 @@ IS_BUILT = False
 if not os.environ.get("COSE_LIBRARY"):
     try:
         from ._extension import (
+            Found,
             feed,
+            field,
             items,
+            made,
             table_admit,
             table_authenticate,
             table_verify,
@@ -39,11 +42,15 @@ if not IS_BUILT:
         verify,
         verify_cwt,
     )
+    from ._fields import Found, field, made
 
 __all__ = [
+    "Found",
     "IS_BUILT",
     "feed",
+    "field",
     "items",
+    "made",
     "table_admit",
     "table_authenticate",
     "table_verify",

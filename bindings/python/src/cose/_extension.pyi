@@ -1,6 +1,10 @@
 """The calls of bindings/python/extension/calls.c, which `_by_ctypes` has too."""
 
-from typing import Optional, Tuple
+from typing import Any, List, Optional, Tuple, Type
+
+from ._fields import Found as Found
+from ._fields import field as field
+from ._fields import made as made
 
 def verify(keys: bytes, large: bool, aad: bytes, kind: int, message: bytes, /) -> bytes: ...
 def table_verify(block: int, aad: bytes, kind: int, message: bytes, /) -> bytes: ...
@@ -26,7 +30,8 @@ def table_verify_cwts(
     leeway: int,
     audience: Optional[bytes],
     tokens: Tuple[bytes, ...],
+    kind: Type[Found],
     /,
-) -> Tuple[bytes, ...]: ...
+) -> Tuple[List[Any], List[int]]: ...
 def feed(block: int, large: bool, piece: bytes, /) -> bytes: ...
 def items(data: bytes, at: int, most: int, /) -> Tuple[bytes, ...]: ...

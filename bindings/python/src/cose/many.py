@@ -4,7 +4,7 @@ from __future__ import annotations
 
 import itertools
 import mmap
-from typing import Callable, Iterable, Iterator, List, Optional, Tuple, Union
+from typing import Any, Callable, Iterable, Iterator, List, Optional, Sequence, Tuple, Union, cast
 
 from . import _calls
 from ._answers import Ecdsa, error_of
@@ -12,20 +12,33 @@ from ._arguments import Buffer, bytes_of
 from ._library import ClaimsStruct, Status
 from .errors import Refused, SignatureUnverified
 from .keys import Keys, KeyTable, data_of
-from .tokens import Claims, claims_of, policy_of, verify_cwt
+from .tokens import Claims, policy_of, verify_cwt
 
 Answer = Union[Claims, Refused, SignatureUnverified]
 # tokens that are verified in one call, during which other threads run
 _BATCH = 256
-_AUTHENTIC, _SIGNED = Status.AUTHENTIC.value, Status.SIGNED.value
+_SIGNED = Status.SIGNED.value
 
 
 def _batches(tokens: Union[Buffer, Iterable[Buffer]]) -> Iterator[Tuple[bytes, ...]]:
     """The tokens, so many at a time as one call takes."""
     if isinstance(tokens, (bytes, bytearray, memoryview, mmap.mmap)):
         return _batches_of_sequence(bytes_of(tokens, "tokens"))
+    if type(tokens) in (list, tuple):
+        return _batches_of_list(cast(Sequence[Any], tokens))
     each = iter(tokens)
     return iter(lambda: tuple(map(_token, itertools.islice(each, _BATCH))), ())
+
+
+def _batches_of_list(tokens: Sequence[Any]) -> Iterator[Tuple[bytes, ...]]:
+    """Those of a list or of a tuple, of which a batch is looked at at once."""
+    for at in itertools.count(0, _BATCH):
+        batch = tokens[at : at + _BATCH]
+        if batch:
+            yield tuple(batch) if {*map(type, batch)} == {bytes} else tuple(map(_token, batch))
+        # (as an iterator ends, whatever is appended after that)
+        if len(batch) < _BATCH:
+            return
 
 
 def _token(token: Buffer) -> bytes:
@@ -81,11 +94,11 @@ def verify_many(
         given = {"leeway": leeway, "audience": audience, "aad": external, "ecdsa": ecdsa}
         return verify_cwt(table, token, now=policy[0], **given)  # type: ignore[arg-type]
 
+    block = table._block
     for batch in _batches(tokens):
-        with table._block:
-            found = _calls.table_verify_cwts(table._block.at, external, *policy, batch)
-        answers += [
-            claims_of(it, of_it) if of_it[0] == _AUTHENTIC else _answer(it, of_it, by_itself)
-            for it, of_it in zip(batch, found)
-        ]
+        with block:
+            found, others = _calls.table_verify_cwts(block.at, external, *policy, batch, Claims)
+        for place in others:
+            found[place] = _answer(batch[place], found[place], by_itself)
+        answers += found
     return answers

@@ -6,14 +6,13 @@ import time
 from ctypes import byref
 from dataclasses import dataclass
 from functools import partial
-from struct import Struct
-from typing import Any, Callable, Optional, Tuple, Union, cast
+from typing import Any, Dict, Optional, Tuple, Union, cast
 
 from . import _calls, _library, cbor
 from ._answers import Ecdsa, fail
 from ._arguments import Buffer, Kind, bytes_of, number_of, text_of
-from ._library import ClaimsStruct, DateStruct, ItemStruct, PolicyStruct, Status, small
-from ._numbers import Numbers, places, reader
+from ._fields import AT, PAYLOAD, Field, Found, Reader, bytes_in, pair_at, range_of
+from ._library import ClaimsStruct, ItemStruct, PolicyStruct, Status, small
 from .keys import Keys, KeyTable, data_of
 from .messages import verify
 
@@ -39,63 +38,8 @@ class Confirmation:
     key: Optional[ConfirmationKey] = None
 
 
-_new, _set = object.__new__, object.__setattr__
-_AT = places(ClaimsStruct)
-_PAYLOAD, _CNF_CRV, _CNF_Y_SIGN = (_AT[it] for it in ("payload_at", "cnf_crv", "cnf_y_sign"))
-# what reads two numbers of the library's answer, or a date, from a place on
-_pair_at, _date_at = Struct("=QQ").unpack_from, reader(DateStruct)
-Reader = Callable[..., Numbers]
-
-
-def _range_of(name: str) -> Reader:
-    """What reads, from where it says where the payload begins on, that and a range of the payload."""
-    return Struct(f"=Q{_AT[name] - _PAYLOAD - 8}xQQB").unpack_from
-
-
-class _Read:
-    """A field of `Claims` that is read of the library's answer where it is asked for first.
-
-    What is written into the object under the field's name goes before this.
-    """
-
-    def __init__(self, read: Callable[[Claims], object], *default: object) -> None:
-        self._read, self._default, self._name = read, default, ""
-
-    def __set_name__(self, owner: object, name: str) -> None:
-        self._name = name
-
-    def __get__(self, claims: Optional[Claims], owner: object = None) -> Any:
-        if claims is not None:
-            value = self._read(claims)
-            # (as the class's own __init__ writes, since it is frozen)
-            _set(claims, self._name, value)
-            return value
-        if self._default:
-            return self._default[0]
-        raise AttributeError(self._name)
-
-
-def _payload(claims: Claims) -> bytes:
-    at, length = _pair_at(claims._found, _PAYLOAD)
-    return claims._token[at : at + length]
-
-
-def _bytes(read: Reader, claims: Claims) -> Optional[bytes]:
-    """Those of a range, or None."""
-    begin, at, length, present = read(claims._found, _PAYLOAD)
-    return claims._token[begin + at : begin + at + length] if present else None
-
-
-def _text(read: Reader, claims: Claims) -> Optional[str]:
-    begin, at, length, present = read(claims._found, _PAYLOAD)
-    return claims._token[begin + at : begin + at + length].decode() if present else None
-
-
-def _date(place: int, claims: Claims) -> Optional[int]:
-    number, present, negative = _date_at(claims._found, place)
-    if not present:
-        return None
-    return -1 - number if negative else number
+_set = object.__setattr__
+_CNF_CRV, _CNF_Y_SIGN = AT["cnf_crv"], AT["cnf_y_sign"]
 
 
 def _texts(payload: bytes, at: int, length: int, count: int) -> Tuple[str, ...]:
@@ -118,19 +62,20 @@ def _texts(payload: bytes, at: int, length: int, count: int) -> Tuple[str, ...]:
     return tuple(found)
 
 
-def _audience(read: Reader, claims: Claims) -> Tuple[str, ...]:
-    begin, at, length, _ = read(claims._found, _PAYLOAD)
-    return _texts(claims._token, begin + at, length, _pair_at(claims._found, _AT["aud_count"])[0])
+def _audience(read: Reader, claims: Found) -> Tuple[str, ...]:
+    found = claims._found
+    begin, at, length, _ = read(found, PAYLOAD)
+    return _texts(claims._token, begin + at, length, pair_at(found, AT["aud_count"])[0])
 
 
-_cnf_kid, _cnf_x, _cnf_y = (_range_of(it) for it in ("cnf_kid", "cnf_x", "cnf_y"))
+_cnf_kid, _cnf_x, _cnf_y = (range_of(it) for it in ("cnf_kid", "cnf_x", "cnf_y"))
 
 
-def _confirmation(claims: Claims) -> Optional[Confirmation]:
-    kid, crv, key = _bytes(_cnf_kid, claims), claims._found[_CNF_CRV], None
+def _confirmation(claims: Found) -> Optional[Confirmation]:
+    kid, crv, key = bytes_in(_cnf_kid, claims), claims._found[_CNF_CRV], None
     if crv:
-        x, y_sign = _bytes(_cnf_x, claims) or b"", claims._found[_CNF_Y_SIGN]
-        y: Union[bytes, bool] = y_sign == 2 if y_sign else _bytes(_cnf_y, claims) or b""
+        x, y_sign = bytes_in(_cnf_x, claims) or b"", claims._found[_CNF_Y_SIGN]
+        y: Union[bytes, bool] = y_sign == 2 if y_sign else bytes_in(_cnf_y, claims) or b""
         key = ConfirmationKey(crv, x, y)
     return None if kid is None and key is None else Confirmation(kid, key)
 
@@ -143,25 +88,29 @@ def _item_at(payload: bytes, place: int) -> ItemStruct:
 
 
 @dataclass(frozen=True)
-class Claims:
+class Claims(_calls.Found):
     """The claims of an admitted token; those that aren't there are None, or no audience.
 
     `payload` has all claims, those too that have no name here, as CBOR. What a token says is decoded
     field by field, when it is read first.
     """
 
-    payload: bytes = cast(Any, _Read(_payload))
-    iss: Optional[str] = cast(Any, _Read(partial(_text, _range_of("iss")), None))
-    sub: Optional[str] = cast(Any, _Read(partial(_text, _range_of("sub")), None))
-    aud: Tuple[str, ...] = cast(Any, _Read(partial(_audience, _range_of("aud")), ()))
-    exp: Optional[int] = cast(Any, _Read(partial(_date, _AT["exp"]), None))
-    nbf: Optional[int] = cast(Any, _Read(partial(_date, _AT["nbf"]), None))
-    iat: Optional[int] = cast(Any, _Read(partial(_date, _AT["iat"]), None))
-    cti: Optional[bytes] = cast(Any, _Read(partial(_bytes, _range_of("cti")), None))
-    cnf: Optional[Confirmation] = cast(Any, _Read(_confirmation, None))
+    payload: bytes = cast(Any, _calls.field("payload"))
+    iss: Optional[str] = cast(Any, _calls.field("iss"))
+    sub: Optional[str] = cast(Any, _calls.field("sub"))
+    aud: Tuple[str, ...] = cast(Any, Field(partial(_audience, range_of("aud")), ()))
+    exp: Optional[int] = cast(Any, _calls.field("exp"))
+    nbf: Optional[int] = cast(Any, _calls.field("nbf"))
+    iat: Optional[int] = cast(Any, _calls.field("iat"))
+    cti: Optional[bytes] = cast(Any, _calls.field("cti"))
+    cnf: Optional[Confirmation] = cast(Any, Field(_confirmation, None))
 
-    # no fields: the bytes of a token or of a payload, and of the library's answer about it
-    _token = _found = b""
+    def __getstate__(self) -> Dict[str, Any]:
+        return {**vars(self), "_token": self._token, "_found": self._found}
+
+    def __setstate__(self, state: Dict[str, Any]) -> None:
+        for name, value in state.items():
+            _set(self, name, value)
 
     def value(self, label: Union[int, str]) -> Any:
         """The claim of any label, as `cose.cbor.decode` gives it; raises `KeyError` where it isn't there."""
@@ -191,10 +140,7 @@ class Claims:
 
 def claims_of(token: bytes, found: bytes) -> Claims:
     """The claims that the library found in a token, or in a payload."""
-    made = _new(Claims)
-    _set(made, "_token", token)
-    _set(made, "_found", found)
-    return made
+    return _calls.made(Claims, token, found)
 
 
 Policy = Tuple[int, int, Optional[bytes]]
