@@ -42,12 +42,17 @@ SHARED = {
     "cose_map::map::unordered::Unordered::none",
     "cose_map::map::unordered::Unordered::push",
     "cose_msg::reader::choice::query_of",
+    "cose_msg::verifier::Verifier::feed",
+    "cose_msg::verifier::Verifier::feed_across",
     "core::array::ArrayDefault::default",
     "core::array::DefaultsElements::at",
 }
 # what isn't inlined there: the search for the key isn't on the stack while both buckets are read, nor is what takes the payload
-# while the headers are
+# while the headers are, nor the verifier while the claims are
 APART = {
+    "cose_c::permitted::PermittedKeys::fitting",
+    "cose_c::table::cose_edge_table_verify",
+    "cose_c::table::under::cose_edge_table_authenticate",
     "cose_msg::reader::Reader::payload",
     "cose_msg::reader::choice::key_for",
 }
@@ -58,12 +63,15 @@ OUT_OF_LINE = {
 }
 # what has a value as large as a store on its stack: it is not made smaller at the cost of copies
 HOLDING = {
+    "cose_c::authenticate::authenticated",
     "cose_c::message::cose_edge_verify",
     "cose_c::message::cose_edge_verify_detached",
     "cose_c::message::verify_large",
     "cose_c::message::verify_large_detached",
     "cose_c::stream::open",
     "cose_c::stream::open_detached",
+    "cose_c::table::cose_edge_table_verify",
+    "cose_c::table::under::cose_edge_table_authenticate",
     "cose_mac::hasher::Hasher::finish",
     "cose_map::bucket::both::least_of_elements_in_any_order",
     "cose_map::bucket::both::with_unprotected_in_any_order",

@@ -74,11 +74,12 @@ class Stack(unittest.TestCase):
         names = ("large_verify", "large_feed", "verify", "admit", "feed", "device_feed", "claims")
         names = [f"cose_edge_{it}" for it in names]
         for way, wanted in (
-            ("speed", (163840, 10240, 12288, 13312, 7168, 6144, 8192)),
-            ("size", (163840, 13312, 15360, 17408, 9216, 8192, 11264)),
+            ("speed", (163840, 10240, 11264, 12288, 7168, 6144, 8192)),
+            ("size", (163840, 13312, 14336, 15360, 9216, 8192, 11264)),
         ):
             self.assertEqual(tuple(stack.promised(it, way) for it in names), wanted)
             self.assertEqual(stack.promised("cose_edge_table_verify_cwt", way), wanted[2])
+            self.assertEqual(stack.promised("cose_edge_verify_eddsa", way), wanted[3])
             self.assertEqual(stack.promised("cose_edge_table_read", way), wanted[4])
 
 
