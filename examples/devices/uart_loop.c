@@ -22,16 +22,20 @@ static void print(const char *text)
     line_write(text, length);
 }
 
-/* Prints a number. Places that don't have 32 bits are those of messages that nobody sends to a board. */
+/* Prints a number, by subtraction: a Cortex-M0 has no division. Places that don't have 32 bits are those of messages that nobody sends
+ * to a board. */
 static void print_number(uint32_t number)
 {
-    char digits[10];
-    size_t at = sizeof digits;
-    do {
-        digits[--at] = (char)('0' + number % 10);
-        number /= 10;
-    } while (number != 0);
-    line_write(digits + at, sizeof digits - at);
+    static const uint32_t powers[] = {1000000000, 100000000, 10000000, 1000000, 100000, 10000, 1000, 100, 10, 1};
+    int is_begun = 0;
+    for (size_t at = 0; at < sizeof powers / sizeof *powers; at++) {
+        char digit = '0';
+        for (; number >= powers[at]; digit++)
+            number -= powers[at];
+        is_begun |= digit != '0' || powers[at] == 1;
+        if (is_begun)
+            line_write(&digit, 1);
+    }
 }
 
 static void refuse(uint8_t reason, uint64_t place)
