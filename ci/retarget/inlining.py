@@ -59,7 +59,14 @@ APART = {
 # what is long, since there are no vectors, or is called from many places
 OUT_OF_LINE = {
     "core::slice::scan::ByteMismatchLaneTest::marks",
+    "cose_head::item_ref::ItemRef::content",
+    "cose_head::item_ref::bytes_after",
+    "cose_head::walker::Walker::pass_over",
+    "cose_map::choice::query::number_of",
+    "cose_msg::phase::Phase::is_settled",
+    "cose_msg::reader::Reader::payload_part",
     "cose_msg::reader::Reader::refuse",
+    "cose_msg::reader::Reader::truncate",
 }
 # what has a value as large as a store on its stack: it is not made smaller at the cost of copies
 HOLDING = {
