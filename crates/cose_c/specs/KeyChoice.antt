@@ -118,12 +118,14 @@ item_fitting p keys (Some q) = key_chosen (Ok q) p keys
 item_fitting p keys None = None
 
 abbrev pub item_of_kind : CoseTerms → Option Kind → Option (List Pair) → Option (List Pair) → Option Placed
-item_of_kind terms (Some kind) protected unprotected = item_fitting (permission_stated terms) terms.keys.now (asked_by kind protected unprotected)
+item_of_kind terms (Some kind) protected unprotected =
+    item_fitting (permission_stated terms) terms.keys.now (asked_by kind protected unprotected)
 item_of_kind terms None protected unprotected = None
 
 -- Terms of another version have no keys.
 abbrev pub item_under : CoseTerms → Option (List Pair) → Option (List Pair) → Option Placed
-item_under terms protected unprotected = if is_unknown terms then None else item_of_kind terms (kind_numbered terms.kind) protected unprotected
+item_under terms protected unprotected =
+    if is_unknown terms then None else item_of_kind terms (kind_numbered terms.kind) protected unprotected
 
 -- And of the message that a verifier was fed so far.
 abbrev pub key_of_fed : {H D : ℕ} {S : Type 0} {K : _} → CoseTerms → Content H D S K → Option Placed

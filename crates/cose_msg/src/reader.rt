@@ -170,7 +170,8 @@ impl<'k, const H: usize, const D: usize> Reader<'k, H, D> {
     fn take_byte(&mut self, byte: u8, detached_length: Option<u64>)
         requires { takes_bytes self.old.phase ≡ true }
         ensures { (task : Task) (payload : List ℕ) (n : ℕ) (reading : List ℕ → Reading)
-            → IsStated detached_length task.setting.source → ReaderMeans task payload n self.old reading
+            → IsStated detached_length task.setting.source
+            → ReaderMeans task payload n self.old reading
             → ReaderMeans task payload (n + 1) self.new (λ more. reading (byte ∷ more)) }
     {
         match self.phase {

@@ -94,7 +94,8 @@ impl<'k, const H: usize, const D: usize> Reader<'k, H, D> {
     )
         requires phase { self.old.phase ≡ Phase.PayloadHead payload_head }
         ensures reads_on { (task : Task) (payload : List ℕ) (n : ℕ) (reading : List ℕ → Reading)
-            → IsStated detached_length task.setting.source → ReaderMeans task payload n self.old reading
+            → IsStated detached_length task.setting.source
+            → ReaderMeans task payload n self.old reading
             → ReaderMeans task payload (n + 1) self.new (λ more. reading (byte ∷ more)) }
     {
         let at = payload_head.at;
@@ -119,7 +120,8 @@ impl<'k, const H: usize, const D: usize> Reader<'k, H, D> {
         detached_length: Option<u64>,
     )
         requires early { at < 2 ^ 19 }
-        ensures reads_on { (task : Task) (known : Known) → IsStated detached_length task.setting.source
+        ensures reads_on { (task : Task) (known : Known)
+            → IsStated detached_length task.setting.source
             → HasFindings task (headers_so_far known.headers []) self.old → known.payload ≡ []
             → HoldsKey task known self.old payload_head.kind
             → known.headers.protected ≡ self.old.protected.items
