@@ -16,6 +16,8 @@ RENAMED = {
     "CoseAskedKey": "cose_chosen_key",
     "CoseAskedSignature": "cose_received_signature",
 }
+# handles of a block that is only read: those of C are the ones that the block has anyway
+ONLY_READ = {"&mut CoseSharedTable": "&CoseTable"}
 
 
 class Reason(NamedTuple):
@@ -126,6 +128,7 @@ def structs():
     """The structs that cross to C, each after those that it has."""
     pattern = r"((?:^///[^\n]*\n)+)#\[repr\(C\)\]\n(?:#\[[^\]]*\]\n)*pub struct (Cose\w+)(?:<[^>]*>)? \{([^{}]*(?:\{[^{}]*\}[^{}]*)*)\n\}"
     found = [Struct(name, words(text), fields_of(body)) for source in sources() for text, name, body in re.findall(pattern, source, re.M)]
+    found = [it for it in found if f"&mut {it.name}" not in ONLY_READ]
     known = {it.name: it for it in found}
     ordered = {}
 
@@ -175,5 +178,6 @@ def exports():
         for comment, name, listed, result in re.findall(pattern, text, re.M):
             pairs = [tuple(map(str.strip, each.split(":", 1))) for each in listed.split(",") if each.strip()]
             parameters = [(its, re.sub(r"<[^>]*>", "", re.sub(r"&'\w+ ", "&", kind))) for its, kind in pairs]
+            parameters = [(its, ONLY_READ.get(kind, kind)) for its, kind in parameters]
             found.append(Export(name, parameters, result or None, words(comment)))
     return found

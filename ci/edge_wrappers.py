@@ -24,6 +24,8 @@ class Parameter:
         self.is_kind = name == "wanted"
         # a struct that is only read, with slices among its fields
         self.is_stated = kind.startswith("&Cose") and "&[u8]" in self.fields().values()
+        # the handle of a block that is only read: each call has a handle of its own, so that calls of several threads share none
+        self.is_shared = kind in source.ONLY_READ.values()
         self.is_out = kind.startswith("&mut Cose") and self.fields().get("at") != "*mut u8"
 
     def fields(self):
@@ -70,7 +72,7 @@ class Parameter:
         """What the library gets."""
         if self.is_slice or self.is_room:
             return [f"cose_{'room' if self.is_room else 'slice'}_({self.name})", self.length]
-        return ["cose_kind_(kind)"] if self.is_kind else [f"&cose_{self.name}_"] if self.is_stated else [self.name]
+        return ["cose_kind_(kind)"] if self.is_kind else [f"&cose_{self.name}_"] if self.is_stated or self.is_shared else [self.name]
 
     def nothing(self):
         """What it gets in a call with nothing."""
@@ -125,7 +127,8 @@ def wrapper(export):
     parameters = [Parameter(*it) for it in export.parameters]
     lines = [declaration(export, export.name.replace("_edge", "", 1), parameters, True), "{"]
     stated = [it for it in parameters if it.is_stated]
-    lines += [f"    {it.declared(True)[0].split(' *')[0].replace('const ', '')} cose_{it.name}_ = *{it.name};" for it in stated]
+    copied = [it for it in parameters if it.is_stated or it.is_shared]
+    lines += [f"    {it.declared(True)[0].split(' *')[0].replace('const ', '')} cose_{it.name}_ = *{it.name};" for it in copied]
     tests = [it for each in parameters for it in each.tests()]
     if tests:
         condition = f"    if ({' || '.join(tests)}) {{"

@@ -1893,28 +1893,31 @@ static inline void cose_table_read(struct cose_table *table, const uint8_t *keys
     cose_edge_table_read(table, cose_slice_(keys), keys_length, key_set);
 }
 
-void cose_edge_table_verify(struct cose_table *table, const uint8_t *aad, uint64_t aad_length, uint8_t kind, const uint8_t *message,
+void cose_edge_table_verify(const struct cose_table *table, const uint8_t *aad, uint64_t aad_length, uint8_t kind, const uint8_t *message,
     uint64_t message_length, struct cose_message_verdict *verdict, struct cose_signature_input *input);
 
 /** As cose_verify, under the keys of the table. */
-static inline void cose_table_verify(struct cose_table *table, const uint8_t *aad, size_t aad_length, enum cose_kind_number kind,
+static inline void cose_table_verify(const struct cose_table *table, const uint8_t *aad, size_t aad_length, enum cose_kind_number kind,
     const uint8_t *message, size_t message_length, struct cose_message_verdict *verdict, struct cose_signature_input *input)
 {
+    struct cose_table cose_table_ = *table;
     if (cose_is_null_(aad, aad_length) || cose_is_null_(message, message_length)) {
         memset(verdict, 0, sizeof *verdict);
         verdict->status = COSE_BAD_ARGUMENT;
         return;
     }
-    cose_edge_table_verify(table, cose_slice_(aad), aad_length, cose_kind_(kind), cose_slice_(message), message_length, verdict, input);
+    cose_edge_table_verify(&cose_table_, cose_slice_(aad), aad_length, cose_kind_(kind), cose_slice_(message), message_length, verdict,
+        input);
 }
 
-void cose_edge_table_verify_cwt(struct cose_table *table, const uint8_t *aad, uint64_t aad_length, const struct cose_policy *policy,
+void cose_edge_table_verify_cwt(const struct cose_table *table, const uint8_t *aad, uint64_t aad_length, const struct cose_policy *policy,
     const uint8_t *token, uint64_t token_length, struct cose_claims_set *claims);
 
 /** As cose_verify_cwt, under the keys of the table. */
-static inline void cose_table_verify_cwt(struct cose_table *table, const uint8_t *aad, size_t aad_length,
+static inline void cose_table_verify_cwt(const struct cose_table *table, const uint8_t *aad, size_t aad_length,
     const struct cose_policy *policy, const uint8_t *token, size_t token_length, struct cose_claims_set *claims)
 {
+    struct cose_table cose_table_ = *table;
     struct cose_policy cose_policy_ = *policy;
     if (cose_is_null_(aad, aad_length) ||
         cose_is_null_(policy->audience, policy->audience_length) ||
@@ -1924,7 +1927,7 @@ static inline void cose_table_verify_cwt(struct cose_table *table, const uint8_t
         return;
     }
     cose_policy_.audience = cose_slice_(policy->audience);
-    cose_edge_table_verify_cwt(table, cose_slice_(aad), aad_length, &cose_policy_, cose_slice_(token), token_length, claims);
+    cose_edge_table_verify_cwt(&cose_table_, cose_slice_(aad), aad_length, &cose_policy_, cose_slice_(token), token_length, claims);
 }
 
 void cose_edge_table_read_under(struct cose_table *table, const struct cose_terms *terms, struct cose_key_set *key_set);
@@ -1948,28 +1951,30 @@ static inline void cose_table_read_under(struct cose_table *table, const struct 
     cose_edge_table_read_under(table, &cose_terms_, key_set);
 }
 
-void cose_edge_table_authenticate(struct cose_table *table, const uint8_t *message, uint64_t message_length,
+void cose_edge_table_authenticate(const struct cose_table *table, const uint8_t *message, uint64_t message_length,
     struct cose_message_verdict *verdict, struct cose_signature_input *input);
 
 /** As cose_authenticate, under the terms of the table: COSE_CLOSED where it wasn't read under terms. */
-static inline void cose_table_authenticate(struct cose_table *table, const uint8_t *message, size_t message_length,
+static inline void cose_table_authenticate(const struct cose_table *table, const uint8_t *message, size_t message_length,
     struct cose_message_verdict *verdict, struct cose_signature_input *input)
 {
+    struct cose_table cose_table_ = *table;
     if (cose_is_null_(message, message_length)) {
         memset(verdict, 0, sizeof *verdict);
         verdict->status = COSE_BAD_ARGUMENT;
         return;
     }
-    cose_edge_table_authenticate(table, cose_slice_(message), message_length, verdict, input);
+    cose_edge_table_authenticate(&cose_table_, cose_slice_(message), message_length, verdict, input);
 }
 
-void cose_edge_table_admit(struct cose_table *table, const struct cose_requirements *requirements, const uint8_t *token,
+void cose_edge_table_admit(const struct cose_table *table, const struct cose_requirements *requirements, const uint8_t *token,
     uint64_t token_length, struct cose_claims_set *claims);
 
 /** As cose_admit, under the terms of the table. */
-static inline void cose_table_admit(struct cose_table *table, const struct cose_requirements *requirements, const uint8_t *token,
+static inline void cose_table_admit(const struct cose_table *table, const struct cose_requirements *requirements, const uint8_t *token,
     size_t token_length, struct cose_claims_set *claims)
 {
+    struct cose_table cose_table_ = *table;
     struct cose_requirements cose_requirements_ = *requirements;
     if (cose_is_null_(requirements->iss, requirements->iss_length) ||
         cose_is_null_(requirements->sub, requirements->sub_length) ||
@@ -1982,7 +1987,7 @@ static inline void cose_table_admit(struct cose_table *table, const struct cose_
     cose_requirements_.iss = cose_slice_(requirements->iss);
     cose_requirements_.sub = cose_slice_(requirements->sub);
     cose_requirements_.aud = cose_slice_(requirements->aud);
-    cose_edge_table_admit(table, &cose_requirements_, cose_slice_(token), token_length, claims);
+    cose_edge_table_admit(&cose_table_, &cose_requirements_, cose_slice_(token), token_length, claims);
 }
 
 /* ---- Making a COSE_Mac0 (RFC 9052 section 6.2) over pieces: head, the pieces and tail are the message. */

@@ -593,18 +593,18 @@ unsafe extern "C" {
     );
     pub(crate) fn cose_edge_table_read_under(table: &mut Table, terms: &Terms, key_set: &mut KeySet);
     pub(crate) fn cose_edge_table_authenticate(
-        table: &mut Table, message: *const u8, message_length: usize, verdict: &mut Verdict, input: &mut SignInput,
+        table: &Table, message: *const u8, message_length: usize, verdict: &mut Verdict, input: &mut SignInput,
     );
     pub(crate) fn cose_edge_table_admit(
-        table: &mut Table, requirements: &Requirements, token: *const u8, token_length: usize, claims: &mut Claims,
+        table: &Table, requirements: &Requirements, token: *const u8, token_length: usize, claims: &mut Claims,
     );
     pub(crate) fn cose_edge_table_read(table: &mut Table, keys: *const u8, keys_length: usize, key_set: &mut KeySet);
     pub(crate) fn cose_edge_table_verify(
-        table: &mut Table, aad: *const u8, aad_length: usize, wanted: u8, message: *const u8, message_length: usize,
+        table: &Table, aad: *const u8, aad_length: usize, wanted: u8, message: *const u8, message_length: usize,
         verdict: &mut Verdict, input: &mut SignInput,
     );
     pub(crate) fn cose_edge_table_verify_cwt(
-        table: &mut Table, aad: *const u8, aad_length: usize, policy: &Policy, token: *const u8, token_length: usize,
+        table: &Table, aad: *const u8, aad_length: usize, policy: &Policy, token: *const u8, token_length: usize,
         claims: &mut Claims,
     );
     pub(crate) fn cose_edge_wipe_bytes(bytes: *mut u8, bytes_room: usize);

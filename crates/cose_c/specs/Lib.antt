@@ -5,6 +5,7 @@ pub mod PermittedView
 pub mod Terms
 pub mod Input
 pub mod Held
+pub mod HeldShared
 pub mod Stream
 pub mod Eddsa
 pub mod Elsewhere

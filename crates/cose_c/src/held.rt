@@ -7,6 +7,7 @@
 pub(crate) mod device_verifier;
 pub(crate) mod large_verifier;
 pub(crate) mod maker;
+pub(crate) mod shared_table;
 pub(crate) mod signer;
 pub(crate) mod table;
 pub(crate) mod verifier;

@@ -16,6 +16,7 @@ mod under;
 
 use crate::claims::{CosePolicy, claims_after};
 use crate::cose_claims::CoseClaims;
+use crate::held::shared_table::CoseSharedTable;
 use crate::held::table::CoseTable;
 use crate::input::{CoseSignInput, blank_input};
 use crate::key_set::CoseKeySet;
@@ -74,7 +75,7 @@ pub extern "C" fn cose_edge_table_read(
 /// `CLOSED`.
 #[unsafe(no_mangle)]
 pub extern "C" fn cose_edge_table_verify(
-    table: &mut CoseTable,
+    table: &mut CoseSharedTable,
     aad: &[u8],
     wanted: u8,
     message: &[u8],
@@ -93,9 +94,9 @@ pub extern "C" fn cose_edge_table_verify(
         (input_given 1024 8 (setting_under_table (keys_in table.old.value.content) aad.now wanted)
         message.now)
         input.new }
-    ensures same { table.new.value ≡ table.old.value }
+    ensures same { table.new ≡ table.old }
 {
-    *verdict = match context(&table.lend().content, aad, wanted) {
+    *verdict = match context(&table.read().content, aad, wanted) {
         Ok(context) => {
             let mut verifier = Verifier::<HEADER, NESTING, &TableKeys>::new(context);
             read_whole(&mut verifier, message, input)
@@ -107,7 +108,7 @@ pub extern "C" fn cose_edge_table_verify(
 /// Verifies a token in memory under the table's keys and reads its claims, as `cose_verify_cwt` does under those of a key set.
 #[unsafe(no_mangle)]
 pub extern "C" fn cose_edge_table_verify_cwt(
-    table: &mut CoseTable,
+    table: &mut CoseSharedTable,
     aad: &[u8],
     policy: &CosePolicy<'_>,
     token: &[u8],
@@ -116,7 +117,7 @@ pub extern "C" fn cose_edge_table_verify_cwt(
     ensures claims { GivesToken 1024 8
         (setting_under_table (keys_in table.old.value.content) aad.now 0)
         (policy_given policy.entry.now) token.now claims.new }
-    ensures same { table.new.value ≡ table.old.value }
+    ensures same { table.new ≡ table.old }
 {
     let (mut verdict, mut input) = (no_message(plain_status(MORE)), blank_input());
     cose_edge_table_verify(table, aad, 0, token, &mut verdict, &mut input);

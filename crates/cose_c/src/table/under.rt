@@ -10,6 +10,7 @@ ghost use Rattle.cose_c.specs.TableUnder.{setting_by_terms, setting_in_table, se
 
 use crate::admit::claims_after;
 use crate::cose_claims::{CoseClaims, no_claims};
+use crate::held::shared_table::CoseSharedTable;
 use crate::held::table::{CoseTable, HeldTable};
 use crate::input::{CoseSignInput, blank_input};
 use crate::key_set::{CoseKeySet, no_key_set};
@@ -92,7 +93,7 @@ pub extern "C" fn cose_edge_table_read_under(
 /// under terms answers `CLOSED`.
 #[unsafe(no_mangle)]
 pub extern "C" fn cose_edge_table_authenticate(
-    table: &mut CoseTable,
+    table: &mut CoseSharedTable,
     message: &[u8],
     verdict: &mut CoseVerdict,
     input: &mut CoseSignInput,
@@ -104,9 +105,9 @@ pub extern "C" fn cose_edge_table_authenticate(
         verdict.new.payload_at verdict.new.payload_length }
     ensures input { verdict.new.status ≡ 2 → GivesAll
         (input_given 1024 8 (setting_kept table.old.value) message.now) input.new }
-    ensures same { table.new.value ≡ table.old.value }
+    ensures same { table.new ≡ table.old }
 {
-    *verdict = match context(table.lend()) {
+    *verdict = match context(table.read()) {
         Ok(context) => {
             let mut verifier = Verifier::<HEADER, NESTING, &TableKeys>::new(context);
             read_whole(&mut verifier, message, input)
@@ -119,14 +120,14 @@ pub extern "C" fn cose_edge_table_authenticate(
 /// struct of terms.
 #[unsafe(no_mangle)]
 pub extern "C" fn cose_edge_table_admit(
-    table: &mut CoseTable,
+    table: &mut CoseSharedTable,
     requirements: &CoseRequirements<'_>,
     token: &[u8],
     claims: &mut CoseClaims,
 )
     ensures claims { GivesRequired 1024 8 (setting_kept table.old.value)
         (required_stated requirements.entry.now) token.now claims.new }
-    ensures same { table.new.value ≡ table.old.value }
+    ensures same { table.new ≡ table.old }
 {
     *claims = match required_by(requirements) {
         Ok(required) => {
