@@ -12,7 +12,9 @@ NUMBERS = {"u8": "uint8_t", "u32": "uint32_t", "u64": "uint64_t", "i32": "int32_
 # calls that open, read or make something: with NULL they are made with nothing, so that the block has nothing then
 CLOSING = re.compile("^cose_edge_(large_|device_)?open|^cose_edge_table_read(_under)?$|^cose_edge_make(_sign1)?$")
 WIDTH = 138
-LAST = "#ifdef __cplusplus\n}\n#endif\n#endif\n"
+LAST = "#ifdef __cplusplus\n}\n#endif\n\n/* made by"
+# a function of the header that is there in each size, and stands for no export
+WIPE = source.Export("cose_wipe", [("verifier", "&mut CoseVerifier")], None, "")
 
 
 class Parameter:
@@ -141,6 +143,46 @@ def wrapper(export):
             lines += [line for field in it.slices() for line in (f"    {it.name}->{field} = cose_slice_(NULL);", f"    {it.name}->{field}_length = 0;")]
     passed = ", ".join(it for each in parameters for it in each.passed())
     return "\n".join([*lines, wrapped(f"{'return ' if export.result else ''}{export.name}({passed});", "    "), "}"])
+
+
+def of_sizes():
+    """The calls of a verifier that are there in several sizes, each with those sizes."""
+    exports = source.exports()
+    names = {it.name.replace("_edge", "", 1) for it in exports} | {"cose_large_wipe", "cose_device_wipe"}
+    for it in [*exports, WIPE]:
+        name = it.name.replace("_edge", "", 1)
+        sizes = [size for size in ("large", "device") if name.replace("cose_", f"cose_{size}_", 1) in names]
+        if sizes and it.parameters and it.parameters[0][1] == "&mut CoseVerifier":
+            yield it, name.removeprefix("cose_"), sizes
+
+
+def overloads():
+    """For C++: a function of the small size's name for each other size."""
+    for it, short, sizes in of_sizes():
+        parameters = [Parameter(*pair) for pair in it.parameters]
+        passed = ", ".join(word.split()[-1].lstrip("*") for each in parameters for word in each.declared(True))
+        for size in sizes:
+            declared = declaration(it, f"cose_{short}", parameters, True).replace("static inline", "inline").replace("cose_verifier", f"cose_{size}_verifier")
+            yield f"{'COSE_MUST_USE_ ' if it.result else ''}{declared}"
+            yield "{"
+            yield f"    {'return ' if it.result else ''}cose_{size}_{short}({passed});"
+            yield "}"
+
+
+def by_size():
+    """One set of calls for all sizes: the type of the handle says which is called."""
+    yield "#ifdef __cplusplus"
+    yield from overloads()
+    yield "#elif defined(__STDC_VERSION__) && __STDC_VERSION__ >= 201112L"
+    yield "#define COSE_OF_TWO_(verifier, call) _Generic((verifier), struct cose_large_verifier *: cose_large_##call, default: cose_##call)"
+    yield "#define COSE_OF_(verifier, call) \\"
+    yield "    _Generic((verifier), struct cose_large_verifier *: cose_large_##call, \\"
+    yield "        struct cose_device_verifier *: cose_device_##call, default: cose_##call)"
+    for it, short, sizes in of_sizes():
+        chosen = f"{'COSE_OF_' if 'device' in sizes else 'COSE_OF_TWO_'}(verifier, {short})"
+        others = len(it.parameters) > 1
+        yield f"#define cose_{short}(verifier{', ...' if others else ''}) {chosen}(verifier{', __VA_ARGS__' if others else ''})"
+    yield "#endif"
 
 
 def in_header(text):

@@ -2303,4 +2303,225 @@ static inline void cose_large_fed_key_of(struct cose_large_verifier *verifier, c
 #ifdef __cplusplus
 }
 #endif
+
+/* ---- One set of calls for the verifiers of all sizes: in C++, and in C from C11 on, a call such as cose_feed takes the handle of a
+ * verifier of any size, and the type of the handle says which function is called. No other size is linked for that. */
+
+/* made by ci/edge_tables: sizes */
+#ifdef __cplusplus
+inline void cose_open_elsewhere(struct cose_large_verifier *verifier, const uint8_t *keys, size_t keys_length, const uint8_t *aad,
+    size_t aad_length, enum cose_kind_number kind, struct cose_status *status)
+{
+    cose_large_open_elsewhere(verifier, keys, keys_length, aad, aad_length, kind, status);
+}
+inline void cose_open_elsewhere_detached(struct cose_large_verifier *verifier, const uint8_t *keys, size_t keys_length,
+    const uint8_t *aad, size_t aad_length, enum cose_kind_number kind, uint64_t payload_length, struct cose_status *status)
+{
+    cose_large_open_elsewhere_detached(verifier, keys, keys_length, aad, aad_length, kind, payload_length, status);
+}
+COSE_MUST_USE_ inline uint8_t cose_front_pieces(struct cose_large_verifier *verifier, uint8_t *header, size_t header_room, struct cose_pieces *pieces)
+{
+    return cose_large_front_pieces(verifier, header, header_room, pieces);
+}
+COSE_MUST_USE_ inline uint8_t cose_asked_key(struct cose_large_verifier *verifier, struct cose_chosen_key *asked)
+{
+    return cose_large_asked_key(verifier, asked);
+}
+COSE_MUST_USE_ inline uint8_t cose_asked_signature(struct cose_large_verifier *verifier, struct cose_received_signature *signature)
+{
+    return cose_large_asked_signature(verifier, signature);
+}
+inline void cose_verdict_of_mac(struct cose_large_verifier *verifier, const uint8_t *mac, size_t mac_length,
+    struct cose_message_verdict *verdict)
+{
+    cose_large_verdict_of_mac(verifier, mac, mac_length, verdict);
+}
+inline void cose_verdict_of_answer(struct cose_large_verifier *verifier, uint64_t message, int32_t holds,
+    struct cose_message_verdict *verdict)
+{
+    cose_large_verdict_of_answer(verifier, message, holds, verdict);
+}
+inline void cose_fed_key_of(struct cose_large_verifier *verifier, const struct cose_terms *terms, struct cose_item *key)
+{
+    cose_large_fed_key_of(verifier, terms, key);
+}
+inline void cose_open(struct cose_large_verifier *verifier, const uint8_t *keys, size_t keys_length, const uint8_t *aad,
+    size_t aad_length, enum cose_kind_number kind, struct cose_status *status)
+{
+    cose_large_open(verifier, keys, keys_length, aad, aad_length, kind, status);
+}
+inline void cose_open(struct cose_device_verifier *verifier, const uint8_t *keys, size_t keys_length, const uint8_t *aad,
+    size_t aad_length, enum cose_kind_number kind, struct cose_status *status)
+{
+    cose_device_open(verifier, keys, keys_length, aad, aad_length, kind, status);
+}
+inline void cose_open_detached(struct cose_large_verifier *verifier, const uint8_t *keys, size_t keys_length, const uint8_t *aad,
+    size_t aad_length, enum cose_kind_number kind, uint64_t payload_length, struct cose_status *status)
+{
+    cose_large_open_detached(verifier, keys, keys_length, aad, aad_length, kind, payload_length, status);
+}
+inline void cose_open_detached(struct cose_device_verifier *verifier, const uint8_t *keys, size_t keys_length, const uint8_t *aad,
+    size_t aad_length, enum cose_kind_number kind, uint64_t payload_length, struct cose_status *status)
+{
+    cose_device_open_detached(verifier, keys, keys_length, aad, aad_length, kind, payload_length, status);
+}
+inline void cose_open_under(struct cose_large_verifier *verifier, const struct cose_terms *terms, struct cose_status *status)
+{
+    cose_large_open_under(verifier, terms, status);
+}
+inline void cose_open_under_detached(struct cose_large_verifier *verifier, const struct cose_terms *terms, uint64_t payload_length,
+    struct cose_status *status)
+{
+    cose_large_open_under_detached(verifier, terms, payload_length, status);
+}
+inline void cose_feed(struct cose_large_verifier *verifier, const uint8_t *piece, size_t piece_length, struct cose_fed *fed)
+{
+    cose_large_feed(verifier, piece, piece_length, fed);
+}
+inline void cose_feed(struct cose_device_verifier *verifier, const uint8_t *piece, size_t piece_length, struct cose_fed *fed)
+{
+    cose_device_feed(verifier, piece, piece_length, fed);
+}
+COSE_MUST_USE_ inline uint64_t cose_wanted(struct cose_large_verifier *verifier)
+{
+    return cose_large_wanted(verifier);
+}
+COSE_MUST_USE_ inline uint64_t cose_wanted(struct cose_device_verifier *verifier)
+{
+    return cose_device_wanted(verifier);
+}
+COSE_MUST_USE_ inline uint64_t cose_payload_wanted(struct cose_large_verifier *verifier)
+{
+    return cose_large_payload_wanted(verifier);
+}
+COSE_MUST_USE_ inline uint64_t cose_payload_wanted(struct cose_device_verifier *verifier)
+{
+    return cose_device_payload_wanted(verifier);
+}
+COSE_MUST_USE_ inline uint64_t cose_feed_payload(struct cose_large_verifier *verifier, const uint8_t *piece, size_t piece_length)
+{
+    return cose_large_feed_payload(verifier, piece, piece_length);
+}
+COSE_MUST_USE_ inline uint64_t cose_feed_payload(struct cose_device_verifier *verifier, const uint8_t *piece, size_t piece_length)
+{
+    return cose_device_feed_payload(verifier, piece, piece_length);
+}
+inline void cose_end(struct cose_large_verifier *verifier, struct cose_status *status)
+{
+    cose_large_end(verifier, status);
+}
+inline void cose_end(struct cose_device_verifier *verifier, struct cose_status *status)
+{
+    cose_device_end(verifier, status);
+}
+COSE_MUST_USE_ inline uint8_t cose_sign_input(struct cose_large_verifier *verifier, struct cose_signature_input *input)
+{
+    return cose_large_sign_input(verifier, input);
+}
+COSE_MUST_USE_ inline uint8_t cose_sign_input(struct cose_device_verifier *verifier, struct cose_signature_input *input)
+{
+    return cose_device_sign_input(verifier, input);
+}
+inline void cose_verdict(struct cose_large_verifier *verifier, int32_t signature_is_good, struct cose_message_verdict *verdict)
+{
+    cose_large_verdict(verifier, signature_is_good, verdict);
+}
+inline void cose_verdict(struct cose_device_verifier *verifier, int32_t signature_is_good, struct cose_message_verdict *verdict)
+{
+    cose_device_verdict(verifier, signature_is_good, verdict);
+}
+COSE_MUST_USE_ inline uint64_t cose_message_number(struct cose_large_verifier *verifier)
+{
+    return cose_large_message_number(verifier);
+}
+COSE_MUST_USE_ inline uint64_t cose_message_number(struct cose_device_verifier *verifier)
+{
+    return cose_device_message_number(verifier);
+}
+inline void cose_verdict_for(struct cose_large_verifier *verifier, uint64_t message, int32_t signature_is_good,
+    struct cose_message_verdict *verdict)
+{
+    cose_large_verdict_for(verifier, message, signature_is_good, verdict);
+}
+inline void cose_verdict_for(struct cose_device_verifier *verifier, uint64_t message, int32_t signature_is_good,
+    struct cose_message_verdict *verdict)
+{
+    cose_device_verdict_for(verifier, message, signature_is_good, verdict);
+}
+inline void cose_reset(struct cose_large_verifier *verifier)
+{
+    cose_large_reset(verifier);
+}
+inline void cose_reset(struct cose_device_verifier *verifier)
+{
+    cose_device_reset(verifier);
+}
+COSE_MUST_USE_ inline uint64_t cose_taken(struct cose_large_verifier *verifier)
+{
+    return cose_large_taken(verifier);
+}
+COSE_MUST_USE_ inline uint64_t cose_taken(struct cose_device_verifier *verifier)
+{
+    return cose_device_taken(verifier);
+}
+COSE_MUST_USE_ inline uint64_t cose_held(struct cose_large_verifier *verifier)
+{
+    return cose_large_held(verifier);
+}
+COSE_MUST_USE_ inline uint64_t cose_held(struct cose_device_verifier *verifier)
+{
+    return cose_device_held(verifier);
+}
+inline void cose_header(struct cose_large_verifier *verifier, uint32_t is_protected, int64_t label, uint8_t *into, size_t into_room,
+    struct cose_item *item)
+{
+    cose_large_header(verifier, is_protected, label, into, into_room, item);
+}
+inline void cose_header_named(struct cose_large_verifier *verifier, uint32_t is_protected, const uint8_t *name, size_t name_length,
+    uint8_t *into, size_t into_room, struct cose_item *item)
+{
+    cose_large_header_named(verifier, is_protected, name, name_length, into, into_room, item);
+}
+inline void cose_wipe(struct cose_large_verifier *verifier)
+{
+    cose_large_wipe(verifier);
+}
+inline void cose_wipe(struct cose_device_verifier *verifier)
+{
+    cose_device_wipe(verifier);
+}
+#elif defined(__STDC_VERSION__) && __STDC_VERSION__ >= 201112L
+#define COSE_OF_TWO_(verifier, call) _Generic((verifier), struct cose_large_verifier *: cose_large_##call, default: cose_##call)
+#define COSE_OF_(verifier, call) \
+    _Generic((verifier), struct cose_large_verifier *: cose_large_##call, \
+        struct cose_device_verifier *: cose_device_##call, default: cose_##call)
+#define cose_open_elsewhere(verifier, ...) COSE_OF_TWO_(verifier, open_elsewhere)(verifier, __VA_ARGS__)
+#define cose_open_elsewhere_detached(verifier, ...) COSE_OF_TWO_(verifier, open_elsewhere_detached)(verifier, __VA_ARGS__)
+#define cose_front_pieces(verifier, ...) COSE_OF_TWO_(verifier, front_pieces)(verifier, __VA_ARGS__)
+#define cose_asked_key(verifier, ...) COSE_OF_TWO_(verifier, asked_key)(verifier, __VA_ARGS__)
+#define cose_asked_signature(verifier, ...) COSE_OF_TWO_(verifier, asked_signature)(verifier, __VA_ARGS__)
+#define cose_verdict_of_mac(verifier, ...) COSE_OF_TWO_(verifier, verdict_of_mac)(verifier, __VA_ARGS__)
+#define cose_verdict_of_answer(verifier, ...) COSE_OF_TWO_(verifier, verdict_of_answer)(verifier, __VA_ARGS__)
+#define cose_fed_key_of(verifier, ...) COSE_OF_TWO_(verifier, fed_key_of)(verifier, __VA_ARGS__)
+#define cose_open(verifier, ...) COSE_OF_(verifier, open)(verifier, __VA_ARGS__)
+#define cose_open_detached(verifier, ...) COSE_OF_(verifier, open_detached)(verifier, __VA_ARGS__)
+#define cose_open_under(verifier, ...) COSE_OF_TWO_(verifier, open_under)(verifier, __VA_ARGS__)
+#define cose_open_under_detached(verifier, ...) COSE_OF_TWO_(verifier, open_under_detached)(verifier, __VA_ARGS__)
+#define cose_feed(verifier, ...) COSE_OF_(verifier, feed)(verifier, __VA_ARGS__)
+#define cose_wanted(verifier) COSE_OF_(verifier, wanted)(verifier)
+#define cose_payload_wanted(verifier) COSE_OF_(verifier, payload_wanted)(verifier)
+#define cose_feed_payload(verifier, ...) COSE_OF_(verifier, feed_payload)(verifier, __VA_ARGS__)
+#define cose_end(verifier, ...) COSE_OF_(verifier, end)(verifier, __VA_ARGS__)
+#define cose_sign_input(verifier, ...) COSE_OF_(verifier, sign_input)(verifier, __VA_ARGS__)
+#define cose_verdict(verifier, ...) COSE_OF_(verifier, verdict)(verifier, __VA_ARGS__)
+#define cose_message_number(verifier) COSE_OF_(verifier, message_number)(verifier)
+#define cose_verdict_for(verifier, ...) COSE_OF_(verifier, verdict_for)(verifier, __VA_ARGS__)
+#define cose_reset(verifier) COSE_OF_(verifier, reset)(verifier)
+#define cose_taken(verifier) COSE_OF_(verifier, taken)(verifier)
+#define cose_held(verifier) COSE_OF_(verifier, held)(verifier)
+#define cose_header(verifier, ...) COSE_OF_TWO_(verifier, header)(verifier, __VA_ARGS__)
+#define cose_header_named(verifier, ...) COSE_OF_TWO_(verifier, header_named)(verifier, __VA_ARGS__)
+#define cose_wipe(verifier) COSE_OF_(verifier, wipe)(verifier)
+#endif
+/* end of what ci/edge_tables makes */
 #endif

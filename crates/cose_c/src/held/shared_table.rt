@@ -17,14 +17,13 @@ pub struct CoseSharedTable {
 impl Model for CoseSharedTable {
     ghost use Rattle.cose_c.specs.HeldShared.{lent_table};
 
-    ghost also_owns = { λ handle. lent_table handle.at handle.value 'static };
+    ghost also_owns = { λ handle. lent_table handle.at handle.value };
 }
 
 impl CoseSharedTable {
     /// The value in the block.
     pub(crate) fn read(&mut self) -> &'static HeldTable
-        ensures value { result.now ≡ self.old.value }
-        ensures same { self.new ≡ self.old }
+        ensures { (result.now ≡ self.old.value) × (self.new ≡ self.old) }
     {
         unsafe { &*(self.at as *const HeldTable) }
     }
