@@ -21,6 +21,7 @@ pub mod Claims
 pub mod Item
 pub mod Parameter
 pub mod Table
+pub mod FedKeys
 pub mod TableUnder
 pub mod Make
 pub mod Sign

@@ -18,12 +18,12 @@ ghost use Rattle.cose_c.specs.Terms.{setting_given};
 mod large;
 mod small;
 
+use crate::fed_keys::FedKeys;
 use crate::input::{copy, copy_all};
 use crate::numbers::{
     AUTHENTIC, BAD_ARGUMENT, CLOSED, CoseStatus, CoseVerdict, MORE, REFUSED, accepted, no_message,
     plain_status, refused_status,
 };
-use crate::permitted::PermittedKeys;
 use crate::stated::fed_context_of;
 use crate::stream::status_numbers;
 use cose_head::Alg;
@@ -90,7 +90,7 @@ pub struct CoseAskedSignature {
 /// Gives a block a verifier of messages that the caller authenticates. Where that is refused, the block isn't opened, whatever it was
 /// before.
 pub(crate) fn open_elsewhere<'k, const H: usize, const D: usize>(
-    content: &mut Option<Verifier<'k, H, D, PermittedKeys<'k>>>,
+    content: &mut Option<Verifier<'k, H, D, FedKeys<'k>>>,
     keys: &'k [u8],
     aad: &'k [u8],
     wanted: u8,
@@ -117,7 +117,7 @@ pub(crate) fn open_elsewhere<'k, const H: usize, const D: usize>(
 
 /// The same for messages whose payload is detached, and has so many bytes.
 pub(crate) fn open_elsewhere_detached<'k, const H: usize, const D: usize>(
-    content: &mut Option<Verifier<'k, H, D, PermittedKeys<'k>>>,
+    content: &mut Option<Verifier<'k, H, D, FedKeys<'k>>>,
     keys: &'k [u8],
     aad: &'k [u8],
     wanted: u8,
@@ -148,7 +148,7 @@ pub(crate) fn open_elsewhere_detached<'k, const H: usize, const D: usize>(
 /// Gives the pieces before the payload, of the protected header as many bytes as there is room for, and returns whether they are known:
 /// once the payload's head was read, and until the verdict.
 pub(crate) fn front_pieces<'k, const H: usize, const D: usize>(
-    content: &Option<Verifier<'k, H, D, PermittedKeys<'k>>>,
+    content: &Option<Verifier<'k, H, D, FedKeys<'k>>>,
     protected: &mut [u8],
     pieces: &mut CoseFrontPieces,
 ) -> bool
@@ -238,7 +238,7 @@ fn asked_key_of<'k>(key: &Key<'k>, alg: Alg) -> CoseAskedKey<'k>
 
 /// Gives the key that was chosen, and returns whether it is known: once the payload's head was read, and until the verdict.
 pub(crate) fn asked_key<'k, const H: usize, const D: usize>(
-    content: &Option<Verifier<'k, H, D, PermittedKeys<'k>>>,
+    content: &Option<Verifier<'k, H, D, FedKeys<'k>>>,
     asked: &mut CoseAskedKey<'k>,
 ) -> bool
     ensures key { result ≡ true → GivesChosen content.now asked.new }
@@ -260,7 +260,7 @@ pub(crate) fn asked_key<'k, const H: usize, const D: usize>(
 
 /// Gives the signature of a COSE_Sign1, and returns whether it is asked for: once all bytes are there, and until the verdict.
 pub(crate) fn asked_signature<'k, const H: usize, const D: usize>(
-    content: &Option<Verifier<'k, H, D, PermittedKeys<'k>>>,
+    content: &Option<Verifier<'k, H, D, FedKeys<'k>>>,
     asked: &mut CoseAskedSignature,
 ) -> bool
     ensures signature { result ≡ true → WhateverRead content.now (λ setting taken _.
@@ -287,7 +287,7 @@ pub(crate) fn asked_signature<'k, const H: usize, const D: usize>(
 
 /// Whether all bytes are there of a message that is authenticated elsewhere.
 fn is_ready<'k, const H: usize, const D: usize>(
-    verifier: &Verifier<'k, H, D, PermittedKeys<'k>>,
+    verifier: &Verifier<'k, H, D, FedKeys<'k>>,
 ) -> bool
     ensures { result ≡ is_ready (Some verifier.now) }
 {
@@ -296,7 +296,7 @@ fn is_ready<'k, const H: usize, const D: usize>(
 
 /// The status where nothing is asked for.
 fn status_unasked<'k, const H: usize, const D: usize>(
-    verifier: &Verifier<'k, H, D, PermittedKeys<'k>>,
+    verifier: &Verifier<'k, H, D, FedKeys<'k>>,
 ) -> CoseStatus
     ensures { result ≡ status_unasked (Some verifier.now) }
 {
@@ -308,7 +308,7 @@ fn status_unasked<'k, const H: usize, const D: usize>(
 
 /// Whether the message is one whose MAC has so many bytes, and no verdict is known.
 fn takes_mac<'k, const H: usize, const D: usize>(
-    verifier: &Verifier<'k, H, D, PermittedKeys<'k>>,
+    verifier: &Verifier<'k, H, D, FedKeys<'k>>,
     count: usize,
 ) -> bool
     ensures framed { is_framed verifier.now ≡ false → result ≡ false }
@@ -340,7 +340,7 @@ fn numbers_of(verdict: Verdict) -> CoseVerdict
 
 /// The verdict on a message whose tag is compared with the MAC that the caller computed.
 pub(crate) fn verdict_of_mac<'k, const H: usize, const D: usize>(
-    content: &mut Option<Verifier<'k, H, D, PermittedKeys<'k>>>,
+    content: &mut Option<Verifier<'k, H, D, FedKeys<'k>>>,
     mac: &[u8],
 ) -> CoseVerdict
     ensures early { is_ready content.old ≡ false
@@ -371,7 +371,7 @@ pub(crate) fn verdict_of_mac<'k, const H: usize, const D: usize>(
 
 /// The verdict on a message about whose signature the caller says whether it is good.
 pub(crate) fn verdict_of_answer<'k, const H: usize, const D: usize>(
-    content: &mut Option<Verifier<'k, H, D, PermittedKeys<'k>>>,
+    content: &mut Option<Verifier<'k, H, D, FedKeys<'k>>>,
     is_good: bool,
 ) -> CoseVerdict
     ensures unasked { wants_answer content.old ≡ false

@@ -12,6 +12,7 @@ mod cose_claims;
 mod deciding;
 mod eddsa;
 mod elsewhere;
+mod fed_keys;
 mod held;
 mod input;
 mod item;

@@ -16,9 +16,9 @@ ghost use Rattle.cose_c.specs.Shape.{no_keys};
 ghost use Rattle.cose_c.specs.Terms.{setting_given};
 
 use crate::claims::utf8;
+use crate::fed_keys::FedKeys;
 use crate::input::copy;
 use crate::item::{CoseItem, no_item, numbers_of};
-use crate::permitted::PermittedKeys;
 use crate::shape::NO_KEYS;
 use crate::terms::{HEADER, LARGE_HEADER, LARGE_NESTING, NESTING, context};
 use cose_map::{Bucket, ItemRef, Label};
@@ -104,7 +104,7 @@ fn parameter_copied(bucket: Option<Bucket<'_>>, label: &Label<'_>, into: &mut [u
 
 /// The parameter of this label of one bucket of the message that a verifier has taken so far.
 pub(crate) fn parameter_taken<'k, const H: usize, const D: usize>(
-    content: &Option<Verifier<'k, H, D, PermittedKeys<'k>>>,
+    content: &Option<Verifier<'k, H, D, FedKeys<'k>>>,
     is_protected: bool,
     label: &Label<'_>,
     into: &mut [u8],

@@ -4,10 +4,12 @@ ghost use Rattle.std.specs.Prelude.{◌≡◌, ◌≤◌, IfOk, length, map, not
 ghost use Rattle.cose_map.specs.KeySet.{keys_of};
 ghost use Rattle.cose_map.specs.Label.{number};
 ghost use Rattle.cose_map.specs.Label.View.{label_value};
+ghost use Rattle.cose_c.specs.FedKeys.{settings_fed};
 ghost use Rattle.cose_c.specs.PermittedView.{permission_value};
 ghost use Rattle.cose_c.specs.Stated.{count_before_zero, has_flag, is_unknown, limit_stated, permission_stated, setting_fed, setting_under_terms, settings_stated};
 ghost use Rattle.cose_c.specs.Terms.{setting_given};
 
+use crate::fed_keys::FedKeys;
 use crate::numbers::{BAD_ARGUMENT, CoseStatus, KEYS_REFUSED, plain_status, refused_status};
 use crate::permitted::{Permission, PermittedKeys};
 use crate::terms::{PAYLOAD, kinds_wanted};
@@ -151,14 +153,24 @@ pub(crate) fn context<'t>(
 /// What the messages that a block is fed are verified under, or why none is. A block keeps no labels: none may be stated.
 pub(crate) fn fed_context<'t>(
     terms: &CoseTerms<'t>,
-) -> Result<Context<'t, PermittedKeys<'t>>, CoseStatus>
-    ensures setting { settings_stated result ≡ setting_fed terms.entry.now }
+) -> Result<Context<'t, FedKeys<'t>>, CoseStatus>
+    ensures setting { settings_fed result ≡ setting_fed terms.entry.now }
     ensures external { IfOk result (λ context. length context.aad.now ≤ 65535) }
 {
     if count_before_zero(&terms.understood) > 0 {
         return Err(plain_status(BAD_ARGUMENT));
     }
-    context_with(terms, &[])
+    match context_with(terms, &[]) {
+        Ok(context) => Ok(Context {
+            keys: FedKeys::InSet(context.keys),
+            aad: context.aad,
+            wanted: context.wanted,
+            cwt: context.cwt,
+            understood: context.understood,
+            payload_limit: context.payload_limit,
+        }),
+        Err(status) => Err(status),
+    }
 }
 
 /// What they are verified under where any key may be used, or why none is.
@@ -166,14 +178,14 @@ pub(crate) fn fed_context_of<'k>(
     keys: &'k [u8],
     aad: &'k [u8],
     wanted: u8,
-) -> Result<Context<'k, PermittedKeys<'k>>, CoseStatus>
-    ensures setting { settings_stated result
+) -> Result<Context<'k, FedKeys<'k>>, CoseStatus>
+    ensures setting { settings_fed result
         ≡ setting_given (keys_of keys.entry.now) aad.entry.now wanted }
     ensures external { IfOk result (λ context. length context.aad.now ≤ 65535) }
 {
     let wanted = kinds_wanted(aad, wanted)?;
     let keys = match PermittedKeys::read_all(keys) {
-        Ok(keys) => keys,
+        Ok(keys) => FedKeys::InSet(keys),
         Err(refusal) => return Err(refused_status(KEYS_REFUSED, refusal)),
     };
     Ok(Context {

@@ -12,6 +12,7 @@ ghost use Rattle.cose_c.specs.Table.{keys_in, keys_read, setting_under_table, ta
 mod fill;
 pub(crate) mod kept;
 pub(crate) mod keys;
+mod opened;
 mod under;
 
 use crate::claims::{CosePolicy, claims_after};

@@ -9,7 +9,7 @@ ghost use denote.RawPtr.{room_at};
 ghost use Rattle.cose_c.specs.declared.held.large_verifier.HeldLargeVerifier.{HeldLargeVerifier};
 ghost use Rattle.cose_c.specs.contracts.held.large_verifier.HeldLargeVerifier.{the_row};
 
-use crate::permitted::PermittedKeys;
+use crate::fed_keys::FedKeys;
 use crate::terms::{LARGE_HEADER, LARGE_NESTING};
 use cose_msg::Verifier;
 use std::marker::Model;
@@ -20,7 +20,7 @@ use std::ptr;
 pub struct HeldLargeVerifier {
     pub(crate) message: u64,
     pub(crate) content: Option<
-        Verifier<'static, LARGE_HEADER, LARGE_NESTING, PermittedKeys<'static>>,
+        Verifier<'static, LARGE_HEADER, LARGE_NESTING, FedKeys<'static>>,
     >,
 }
 

@@ -9,7 +9,7 @@ ghost use denote.RawPtr.{room_at};
 ghost use Rattle.cose_c.specs.declared.held.verifier.HeldVerifier.{HeldVerifier};
 ghost use Rattle.cose_c.specs.contracts.held.verifier.HeldVerifier.{the_row};
 
-use crate::permitted::PermittedKeys;
+use crate::fed_keys::FedKeys;
 use crate::terms::{HEADER, NESTING};
 use cose_msg::Verifier;
 use std::marker::Model;
@@ -19,7 +19,7 @@ use std::ptr;
 #[derive(Drop)]
 pub struct HeldVerifier {
     pub(crate) message: u64,
-    pub(crate) content: Option<Verifier<'static, HEADER, NESTING, PermittedKeys<'static>>>,
+    pub(crate) content: Option<Verifier<'static, HEADER, NESTING, FedKeys<'static>>>,
 }
 
 /// The handle of a verifier: where its block is.
