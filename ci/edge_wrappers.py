@@ -12,7 +12,7 @@ NUMBERS = {"u8": "uint8_t", "u32": "uint32_t", "u64": "uint64_t", "i32": "int32_
 # calls that open, read or make something: with NULL they are made with nothing, so that the block has nothing then
 CLOSING = re.compile("^cose_edge_(large_|device_)?open|^cose_edge_table_read(_under)?$|^cose_edge_make(_sign1)?$")
 WIDTH = 138
-LAST = "#ifdef __cplusplus\n}\n#endif\n\n/* made by"
+LAST = "#ifdef __cplusplus\n}\n#endif\n\n/* ---- One set of calls"
 # a function of the header that is there in each size, and stands for no export
 WIPE = source.Export("cose_wipe", [("verifier", "&mut CoseVerifier")], None, "")
 

@@ -1990,6 +1990,68 @@ static inline void cose_table_admit(const struct cose_table *table, const struct
     cose_edge_table_admit(&cose_table_, &cose_requirements_, cose_slice_(token), token_length, claims);
 }
 
+void cose_edge_open_table(struct cose_verifier *verifier, const struct cose_table *table, const uint8_t *aad, uint64_t aad_length,
+    uint8_t kind, struct cose_status *status);
+
+/** Gives a verifier the keys of a table, and the externally supplied data of the next messages: COSE_MORE, or why there are none. A table
+ * that isn't read is COSE_CLOSED. Of one that was read under terms the keys are taken, and nothing else that the terms state. The table,
+ * its keys and the external data stay as they are until the verifier is opened again, or isn't used any more. */
+static inline void cose_open_table(struct cose_verifier *verifier, const struct cose_table *table, const uint8_t *aad, size_t aad_length,
+    enum cose_kind_number kind, struct cose_status *status)
+{
+    struct cose_table cose_table_ = *table;
+    if (cose_is_null_(aad, aad_length)) {
+        cose_edge_open_table(verifier, &cose_table_, cose_slice_(NULL), 0, COSE_NO_KIND_, status);
+        return;
+    }
+    cose_edge_open_table(verifier, &cose_table_, cose_slice_(aad), aad_length, cose_kind_(kind), status);
+}
+
+void cose_edge_open_table_detached(struct cose_verifier *verifier, const struct cose_table *table, const uint8_t *aad,
+    uint64_t aad_length, uint8_t kind, uint64_t payload_length, struct cose_status *status);
+
+/** The same of messages whose payload is detached, and has so many bytes. */
+static inline void cose_open_table_detached(struct cose_verifier *verifier, const struct cose_table *table, const uint8_t *aad,
+    size_t aad_length, enum cose_kind_number kind, uint64_t payload_length, struct cose_status *status)
+{
+    struct cose_table cose_table_ = *table;
+    if (cose_is_null_(aad, aad_length)) {
+        cose_edge_open_table_detached(verifier, &cose_table_, cose_slice_(NULL), 0, COSE_NO_KIND_, 0, status);
+        return;
+    }
+    cose_edge_open_table_detached(verifier, &cose_table_, cose_slice_(aad), aad_length, cose_kind_(kind), payload_length, status);
+}
+
+void cose_edge_large_open_table(struct cose_large_verifier *verifier, const struct cose_table *table, const uint8_t *aad,
+    uint64_t aad_length, uint8_t kind, struct cose_status *status);
+
+/** The same for a large verifier, */
+static inline void cose_large_open_table(struct cose_large_verifier *verifier, const struct cose_table *table, const uint8_t *aad,
+    size_t aad_length, enum cose_kind_number kind, struct cose_status *status)
+{
+    struct cose_table cose_table_ = *table;
+    if (cose_is_null_(aad, aad_length)) {
+        cose_edge_large_open_table(verifier, &cose_table_, cose_slice_(NULL), 0, COSE_NO_KIND_, status);
+        return;
+    }
+    cose_edge_large_open_table(verifier, &cose_table_, cose_slice_(aad), aad_length, cose_kind_(kind), status);
+}
+
+void cose_edge_large_open_table_detached(struct cose_large_verifier *verifier, const struct cose_table *table, const uint8_t *aad,
+    uint64_t aad_length, uint8_t kind, uint64_t payload_length, struct cose_status *status);
+
+/** and with a detached payload. */
+static inline void cose_large_open_table_detached(struct cose_large_verifier *verifier, const struct cose_table *table,
+    const uint8_t *aad, size_t aad_length, enum cose_kind_number kind, uint64_t payload_length, struct cose_status *status)
+{
+    struct cose_table cose_table_ = *table;
+    if (cose_is_null_(aad, aad_length)) {
+        cose_edge_large_open_table_detached(verifier, &cose_table_, cose_slice_(NULL), 0, COSE_NO_KIND_, 0, status);
+        return;
+    }
+    cose_edge_large_open_table_detached(verifier, &cose_table_, cose_slice_(aad), aad_length, cose_kind_(kind), payload_length, status);
+}
+
 /* ---- Making a COSE_Mac0 (RFC 9052 section 6.2) over pieces: head, the pieces and tail are the message. */
 
 /** How many bytes its block has. */
@@ -2482,6 +2544,16 @@ inline void cose_header_named(struct cose_large_verifier *verifier, uint32_t is_
 {
     cose_large_header_named(verifier, is_protected, name, name_length, into, into_room, item);
 }
+inline void cose_open_table(struct cose_large_verifier *verifier, const struct cose_table *table, const uint8_t *aad, size_t aad_length,
+    enum cose_kind_number kind, struct cose_status *status)
+{
+    cose_large_open_table(verifier, table, aad, aad_length, kind, status);
+}
+inline void cose_open_table_detached(struct cose_large_verifier *verifier, const struct cose_table *table, const uint8_t *aad,
+    size_t aad_length, enum cose_kind_number kind, uint64_t payload_length, struct cose_status *status)
+{
+    cose_large_open_table_detached(verifier, table, aad, aad_length, kind, payload_length, status);
+}
 inline void cose_wipe(struct cose_large_verifier *verifier)
 {
     cose_large_wipe(verifier);
@@ -2521,6 +2593,8 @@ inline void cose_wipe(struct cose_device_verifier *verifier)
 #define cose_held(verifier) COSE_OF_(verifier, held)(verifier)
 #define cose_header(verifier, ...) COSE_OF_TWO_(verifier, header)(verifier, __VA_ARGS__)
 #define cose_header_named(verifier, ...) COSE_OF_TWO_(verifier, header_named)(verifier, __VA_ARGS__)
+#define cose_open_table(verifier, ...) COSE_OF_TWO_(verifier, open_table)(verifier, __VA_ARGS__)
+#define cose_open_table_detached(verifier, ...) COSE_OF_TWO_(verifier, open_table_detached)(verifier, __VA_ARGS__)
 #define cose_wipe(verifier) COSE_OF_(verifier, wipe)(verifier)
 #endif
 /* end of what ci/edge_tables makes */

@@ -118,6 +118,13 @@ pub(crate) struct Functions<V> {
         verifier: &mut V, is_protected: u32, name: Bytes, name_length: usize, into: *mut u8, into_room: usize,
         item: &mut raw::Item,
     ),
+    pub(crate) open_table: unsafe extern "C" fn(
+        verifier: &mut V, table: &raw::Table, aad: Bytes, aad_length: usize, wanted: u8, status: &mut raw::Status,
+    ),
+    pub(crate) open_table_detached: unsafe extern "C" fn(
+        verifier: &mut V, table: &raw::Table, aad: Bytes, aad_length: usize, wanted: u8, payload_length: u64,
+        status: &mut raw::Status,
+    ),
 }
 
 impl Library for Small {
@@ -164,6 +171,8 @@ impl Library for Small {
         held: raw::cose_held,
         header: raw::cose_edge_header,
         header_named: raw::cose_edge_header_named,
+        open_table: raw::cose_edge_open_table,
+        open_table_detached: raw::cose_edge_open_table_detached,
     };
 }
 
@@ -211,6 +220,8 @@ impl Library for Large {
         held: raw::cose_large_held,
         header: raw::cose_edge_large_header,
         header_named: raw::cose_edge_large_header_named,
+        open_table: raw::cose_edge_large_open_table,
+        open_table_detached: raw::cose_edge_large_open_table_detached,
     };
 }
 // end of what ci/edge_tables makes
