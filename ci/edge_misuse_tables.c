@@ -1,6 +1,6 @@
-/* Calls the tables of the library that are read under terms as no careful caller would: without terms, with those that
- * a table doesn't take, and with NULL. Each call has to answer with one status, and prints a line where it answers with
- * another.
+/* Calls the tables of the library that are read under terms, and verifiers that are opened under tables, as no careful
+ * caller would: without terms or keys, with those that a table doesn't take, and with NULL. Each call has to answer
+ * with one status, and prints a line where it answers with another.
  */
 #include "edge_misuse.h"
 
@@ -146,11 +146,68 @@ static void admits(void)
     is("a table that admits: a message", under_table(&table).status, COSE_AUTHENTIC);
 }
 
+/* Verifiers of both sizes under a table: the calls are written once, and take the handle of either. */
+#define FED_UNDER(what, verifier, wanted)                                                                              \
+    do {                                                                                                               \
+        struct cose_fed fed;                                                                                           \
+        struct cose_message_verdict verdict;                                                                           \
+        cose_feed(verifier, mac0, sizeof mac0, &fed);                                                                  \
+        cose_verdict(verifier, 0, &verdict);                                                                           \
+        is(what, verdict.status, wanted);                                                                              \
+        cose_reset(verifier);                                                                                          \
+    } while (0)
+#define OPENED_UNDER(what, verifier, aad, length, kind, wanted)                                                        \
+    do {                                                                                                               \
+        struct cose_status status;                                                                                     \
+        cose_open_table(verifier, &table, aad, length, kind, &status);                                                 \
+        is(what, status.status, wanted);                                                                               \
+        cose_open_table_detached(verifier, &table, aad, length, kind, 2, &status);                                     \
+        is(what ", with a detached payload", status.status, wanted);                                                   \
+        FED_UNDER(what ": a message that isn't detached", verifier, wanted == COSE_MORE ? COSE_REFUSED : COSE_CLOSED); \
+        cose_open_table(verifier, &table, aad, length, kind, &status);                                                 \
+    } while (0)
+#define TRY_UNDER(verifier)                                                                                            \
+    do {                                                                                                               \
+        cose_table_begin(block);                                                                                       \
+        OPENED_UNDER("under a table that isn't read", verifier, NULL, 0, COSE_TAGGED, COSE_CLOSED);                    \
+        FED_UNDER("under a table that isn't read", verifier, COSE_CLOSED);                                             \
+        cose_table_read(&table, keys, sizeof keys, &key_set);                                                          \
+        OPENED_UNDER("under a table", verifier, NULL, 0, COSE_MAC0, COSE_MORE);                                        \
+        FED_UNDER("under a table", verifier, COSE_AUTHENTIC);                                                          \
+        FED_UNDER("under a table, again", verifier, COSE_AUTHENTIC);                                                   \
+        OPENED_UNDER("under a table: NULL", verifier, NULL, 1, COSE_MAC0, COSE_BAD_ARGUMENT);                          \
+        FED_UNDER("under a table: after NULL", verifier, COSE_CLOSED);                                                 \
+        OPENED_UNDER("under a table: other data", verifier, much, 1, COSE_MAC0, COSE_MORE);                            \
+        FED_UNDER("under a table: other data", verifier, COSE_REFUSED);                                                \
+        OPENED_UNDER("under a table: much data", verifier, much, sizeof much, COSE_MAC0, COSE_AAD_TOO_LONG);           \
+        OPENED_UNDER("under a table: kind", verifier, NULL, 0, (enum cose_kind_number)273, COSE_BAD_ARGUMENT);         \
+        OPENED_UNDER("under a table: the other kind", verifier, NULL, 0, COSE_SIGN1, COSE_MORE);                       \
+        FED_UNDER("under a table: the other kind", verifier, COSE_REFUSED);                                            \
+        is("a table under terms", read_under(&table, &terms).usable, 0);                                               \
+        OPENED_UNDER("under a table that permits no key", verifier, NULL, 0, COSE_MAC0, COSE_MORE);                    \
+        FED_UNDER("under a table that permits no key", verifier, COSE_REFUSED);                                        \
+    } while (0)
+
+static void opened_under(void)
+{
+    static _Alignas(COSE_BLOCK_ALIGN) uint8_t small_block[COSE_VERIFIER_BLOCK], large_block[COSE_LARGE_VERIFIER_BLOCK];
+    const struct cose_terms terms = {.size = sizeof terms, .keys = keys, .keys_length = sizeof keys};
+    struct cose_verifier small = {small_block};
+    struct cose_large_verifier large = {large_block};
+    struct cose_table table = {block};
+    struct cose_key_set key_set;
+    cose_begin(small_block);
+    cose_large_begin(large_block);
+    TRY_UNDER(&small);
+    TRY_UNDER(&large);
+}
+
 int main(void)
 {
     not_read();
     under_terms();
     admits();
+    opened_under();
     printf("%d failed\n", failures);
     return failures != 0;
 }

@@ -370,6 +370,22 @@ static void table_read_under_one(void)
 {
     cose_table_read_under(&table, &terms, &key_set);
 }
+static void open_table(void)
+{
+    cose_open_table(&verifier, &table, NULL, 0, COSE_TAGGED, &status);
+}
+static void open_table_beside(void)
+{
+    cose_open_table_detached(&verifier, &table, NULL, 0, COSE_TAGGED, payload.length, &status);
+}
+static void large_open_table(void)
+{
+    cose_large_open_table(&large, &table, NULL, 0, COSE_TAGGED, &status);
+}
+static void large_open_table_beside(void)
+{
+    cose_large_open_table_detached(&large, &table, NULL, 0, COSE_TAGGED, payload.length, &status);
+}
 static void table_admit(void)
 {
     cose_table_admit(&table, &requirements, OF(token), &claims);
@@ -583,6 +599,11 @@ static const struct {
     {"table_read_under, again", table_read_under_one, TABLE, &key_set.status, COSE_COMPLETE},
     {"table_authenticate", table_authenticate, SMALL, &verdict.reason, COSE_REASON_BAD_AUTH},
     {"table_admit", table_admit, SMALL, &claims.status, COSE_AUTHENTIC},
+    {"open_table", open_table, SMALL, &status.status, COSE_MORE},
+    {"feed, under a table", feed, SMALL, &fed.status.status, COSE_REFUSED},
+    {"open_table_detached", open_table_beside, SMALL, &status.status, COSE_MORE},
+    {"large_open_table", large_open_table, SMALL, &status.status, COSE_MORE},
+    {"large_open_table_detached", large_open_table_beside, SMALL, &status.status, COSE_MORE},
     {"maker_begin", maker_begin, SMALL, NULL, 0},
     {"make", make, SMALL, &made.status, COSE_MORE},
     {"make_piece", make_piece, SMALL, NULL, 0},

@@ -25,10 +25,12 @@ INLINED = {
     "core::array::DefaultsElements::at",
     "core::slice::edits::slice+T::rotate_left",
 }
-# what is inlined too where a module is built for speed: sets of labels, what is asked of a key, and claims are made where they stay, and
-# what the search for the key keeps shares its place on the stack with what is done before it and after it
+# what is inlined too where a module is built for speed: sets of labels, what is asked of a key, running MACs and claims are made where
+# they stay, and what the search for the key keeps shares its place on the stack with what is done before it and after it
 SHARED = {
     "cose_c::claims::admitted",
+    "cose_c::fed_keys::FedKeysKeyMeaning::begin_mac",
+    "cose_c::table::keys::RefTableKeysKeyMeaning::begin_mac",
     "cose_map::key::Key::read",
     "cose_map::key_set::KeySet::find",
     "cose_map::key_set::KeySetKeys::find",
@@ -41,6 +43,7 @@ SHARED = {
     "cose_map::map::lookup::Lookup::new",
     "cose_map::map::unordered::Unordered::none",
     "cose_map::map::unordered::Unordered::push",
+    "cose_map::prepared_table::PreparedTable::begin_mac",
     "cose_msg::reader::choice::query_of",
     "cose_msg::verifier::Verifier::feed",
     "cose_msg::verifier::Verifier::feed_across",

@@ -36,6 +36,7 @@ OVER_MEMORY = {
 }
 OF_FED = {
     *("cose_edge_open", "cose_edge_open_detached", "cose_edge_open_under", "cose_edge_open_under_detached"),
+    *("cose_edge_open_table", "cose_edge_open_table_detached"),
     *("cose_edge_feed", "cose_edge_feed_payload"),
     *("cose_end", "cose_verdict", "cose_verdict_for", "cose_sign_input", "cose_reset"),
     *("cose_edge_table_read", "cose_edge_table_read_under"),
