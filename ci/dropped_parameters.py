@@ -23,7 +23,7 @@ SIGNED = "verify(keys, data, aad=external, wanted=wanted, ecdsa=ecdsa, large=lar
 GIVEN = "policy_of(now, leeway, audience)"
 POLICY = 'return moment, number_of(leeway, "leeway", 0, 2**32 - 1), name'
 BY_ITSELF = '{"leeway": leeway, "audience": audience, "aad": external, "ecdsa": ecdsa}'
-TABLE = "table_verify_cwts(block.at, external, *policy, batch, Claims)"
+TABLE = "table_verify_cwts(at, external, *policy, batch, Claims)"
 MAKER = "Maker(key, len(data), alg=alg, kid=kid, aad=aad)"
 # the arguments of admitting.py, which two calls each pass on by their places
 REQUIRED = ("now", "leeway", "issuer", "subject", "audience", "present", "max_lifetime", "max_age", "without_exp")
@@ -58,8 +58,8 @@ OF_MESSAGE = "return _message(terms, data, content, ecdsa, large)"
 # the same of terms_table.py, which has them in a class
 IN_CLASS = {"terms": TERMS_LINES.replace("\n    ", "\n        ").replace("        keys", "            keys", 1)}
 IN_CLASS["required"] = REQUIRED_LINE.replace("\n    )", "\n        )").replace("        now", "            now", 1)
-TABLE_MESSAGE = "return self._message(data, found, ecdsa)"
-TABLE_SIGNED = "self._message(data, verdict, ecdsa).payload"
+TABLE_MESSAGE = "return message_of(found, None, ecdsa,"
+TABLE_SIGNED = "self.authenticate(data, ecdsa=ecdsa).payload"
 TABLE_RECEIVED = "(data, self._terms.struct.kind, False)"
 ADMITTED = "found, calls = ClaimsStruct(), _library.large if large else small\n    calls.edge_admit"
 PYTHON = losses_of(
@@ -133,9 +133,9 @@ PYTHON = losses_of(
         ],
         "terms_table.py": [
             *arguments("TermsTable", TERMS, IN_CLASS["terms"], "        # the memory", NOT_STATED),
-            *arguments("TermsTable.admit", REQUIRED, IN_CLASS["required"], "        required = ", NOT_REQUIRED),
+            *arguments("TermsTable.admit", REQUIRED, IN_CLASS["required"], "        found = ", NOT_REQUIRED),
             ("stated, TermsTable.authenticate: ecdsa", TABLE_MESSAGE, TABLE_MESSAGE.replace("ecdsa", "lambda _: True")),
-            ("stated, TermsTable.admit: ecdsa", TABLE_SIGNED, TABLE_SIGNED.replace("ecdsa", "lambda _: True")),
+            ("stated, TermsTable.admit: ecdsa", TABLE_SIGNED, TABLE_SIGNED.replace("=ecdsa", "=lambda _: True")),
             ("stated, TermsTable: the kind of parameters", TABLE_RECEIVED, TABLE_RECEIVED.replace("self._terms.struct.kind", "0")),
             ("stated, TermsTable: the keys", "byref(self._terms.struct), byref(read)", "byref(type(self._terms.struct)()), byref(read)"),
         ],

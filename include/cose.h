@@ -10,7 +10,8 @@
  *     overlapped by any other argument.
  *   - Bytes don't change while a call reads them.
  *   - A block (of a verifier, a table, a maker or a signer) has the size and the alignment that its functions return, is begun once
- *     before anything else, and isn't copied. One call at a time uses it.
+ *     before anything else, and isn't copied. One call at a time uses it, but for those that verify under a table, which only read it:
+ *     any number of threads may make them at once, while no other call uses the table.
  *   - The keys and the external data of cose_open and the other calls that open, and those of cose_table_read and cose_table_read_under,
  *     stay as they are until the next such call of that block, or until its last use.
  *   - A payload isn't used before its message is authentic.
@@ -475,7 +476,7 @@ COSE_ASSERT_(sizeof(struct cose_fed) == 40 && offsetof(struct cose_fed, payload_
 
 /*
  * The library's functions. One with a pointer and a length is exported as cose_edge_NAME, and takes no NULL: the functions below take one
- * with length 0.
+ * with length 0. These copy the handle of a table that is only read: threads that call cose_edge_NAME themselves share no handle.
  */
 
 /* A kind and an algorithm that no function knows: what is opened or made with them is COSE_BAD_ARGUMENT, and the block has nothing then. */

@@ -24,7 +24,7 @@ fn main() {
     let texts: Vec<Vec<u8>> = std::env::args().skip(1).map(|name| std::fs::read(name).expect("a file")).collect();
     let keys = [0xa2, 1, 4, 0x20, 0x44, b'J', b'e', b'f', b'e'];
     let mut block = cose::TableBlock::new();
-    let mut table = cose::KeyTable::read(&mut block, &keys).expect("a key");
+    let table = cose::KeyTable::read(&mut block, &keys).expect("a key");
     let policy = cose::Policy { now: 1_444_064_943, leeway: 60, audience: Some("coap://light.example.com") };
     let options = cose::Options::default();
     let message = fastest(|| matches!(table.verify(&options, &texts[0]), Ok(cose::Verdict::Authentic { .. })));

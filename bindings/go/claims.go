@@ -198,10 +198,10 @@ func (t *KeyTable) VerifyCWT(token []byte, policy *Policy, options *Options) (*C
 	o := options.orDefault()
 	return verifyCWT(token, policy, &o,
 		func(given C.struct_sized_policy, audience []byte) (found C.struct_cose_claims_set, err error) {
-			if err = t.block.lock(); err != nil {
+			if err = t.block.share(); err != nil {
 				return found, err
 			}
-			defer t.block.mutex.Unlock()
+			defer t.block.mutex.RUnlock()
 			external, data := bytesOf(o.AAD), bytesOf(token)
 			if o.Large {
 				return C.sized_verify_cwt(true, bytesOf(t.block.copies[0]), external, given, bytesOf(audience), data), nil

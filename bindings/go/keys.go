@@ -8,7 +8,7 @@ import "C"
 import "runtime"
 
 // KeyTable is a COSE_Key or a COSE_KeySet (RFC 9052 section 7) that is read once, for many messages. It has up to 64 usable keys.
-// Any number of goroutines may use it.
+// Any number of goroutines may use it at once.
 type KeyTable struct {
 	block  block
 	usable int
@@ -47,7 +47,8 @@ func (t *KeyTable) Len() int {
 	return t.usable
 }
 
-// Close gives the memory back, which the garbage collector does too. Other calls return ErrClosed then.
+// Close waits for the calls that have begun, and gives the memory back, which the garbage collector does too. Other calls return
+// ErrClosed then.
 func (t *KeyTable) Close() error {
 	if err := t.block.lock(); err != nil {
 		return err
@@ -69,10 +70,10 @@ func (t *KeyTable) Verify(message []byte, options *Options) (*Message, error) {
 
 // answer is the library's.
 func (t *KeyTable) answer(message []byte, o *Options) (answer C.struct_sized_answer, err error) {
-	if err = t.block.lock(); err != nil {
+	if err = t.block.share(); err != nil {
 		return answer, err
 	}
-	defer t.block.mutex.Unlock()
+	defer t.block.mutex.RUnlock()
 	if o.Large {
 		kept := bytesOf(t.block.copies[0])
 		return C.sized_verify(true, kept, bytesOf(o.AAD), C.uint32_t(o.Wanted), bytesOf(message)), nil

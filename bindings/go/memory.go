@@ -39,9 +39,10 @@ func release(memory []byte) {
 	C.free(unsafe.Pointer(&memory[:1][0]))
 }
 
-// A block has what the library keeps between calls, of which one at a time uses it, and copies of the bytes that this leads to.
+// A block has what the library keeps between calls, and copies of the bytes that this leads to. One call at a time uses it,
+// but for those that verify under a table, which only read it.
 type block struct {
-	mutex sync.Mutex
+	mutex sync.RWMutex
 	// lent is set while code of the caller runs between calls of the library that belong together
 	lent   bool
 	at     *C.uint8_t
@@ -78,6 +79,18 @@ func (b *block) lock() error {
 	}
 	if b.memory == nil {
 		b.mutex.Unlock()
+		return ErrClosed
+	}
+	return nil
+}
+
+// share begins a use of the block that only reads it, which a deferred mutex.RUnlock ends. Any number of these run at once,
+// each call of the library with a handle of its own. What frees the memory waits for them: Close for the lock, and the
+// finalizer because the deferred call still refers to the block.
+func (b *block) share() error {
+	b.mutex.RLock()
+	if b.memory == nil {
+		b.mutex.RUnlock()
 		return ErrClosed
 	}
 	return nil

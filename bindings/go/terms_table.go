@@ -8,7 +8,7 @@ import "C"
 import "runtime"
 
 // TermsTable has the keys that terms permit, at most 64, read once for many messages, and what the terms state besides.
-// Any number of goroutines may use it, and so may the terms' ECDSA while it is asked.
+// Any number of goroutines may use it at once, and so may the terms' ECDSA while it is asked.
 type TermsTable struct {
 	block   block
 	options Options
@@ -44,7 +44,8 @@ func (t *TermsTable) Len() int {
 	return t.usable
 }
 
-// Close gives the memory back, which the garbage collector does too. Other calls return ErrClosed then.
+// Close waits for the calls that have begun, and gives the memory back, which the garbage collector does too. Other calls return
+// ErrClosed then.
 func (t *TermsTable) Close() error {
 	if err := t.block.lock(); err != nil {
 		return err
@@ -65,10 +66,10 @@ func (t *TermsTable) Authenticate(message []byte) (*Message, error) {
 
 // answer is the library's.
 func (t *TermsTable) answer(message []byte) (answer C.struct_sized_answer, err error) {
-	if err = t.block.lock(); err != nil {
+	if err = t.block.share(); err != nil {
 		return answer, err
 	}
-	defer t.block.mutex.Unlock()
+	defer t.block.mutex.RUnlock()
 	return C.sized_table_authenticate(t.block.at, bytesOf(message)), nil
 }
 
@@ -79,29 +80,25 @@ func (t *TermsTable) Admit(token []byte, requirements *Requirements) (*Claims, e
 	if err != nil {
 		return nil, err
 	}
-	found, answer, err := t.answers(token, &r)
+	found, err := t.found(token, &r)
 	if err != nil {
 		return nil, err
 	}
 	if found.status != C.COSE_SIGNED {
 		return claimsOrUnmet(token, &found)
 	}
-	message, err := t.options.decided(&answer, token, nil)
+	message, err := t.Authenticate(token)
 	if err != nil {
 		return nil, err
 	}
 	return r.claims(message.Payload, false)
 }
 
-// answers are the library's about a token and, where that is signed, about its message.
-func (t *TermsTable) answers(token []byte, r *required) (found C.struct_cose_claims_set, answer C.struct_sized_answer, err error) {
-	if err = t.block.lock(); err != nil {
-		return found, answer, err
+// found is what the library finds in a token.
+func (t *TermsTable) found(token []byte, r *required) (claims C.struct_cose_claims_set, err error) {
+	if err = t.block.share(); err != nil {
+		return claims, err
 	}
-	defer t.block.mutex.Unlock()
-	found = C.sized_table_admit(t.block.at, r.given, bytesOf(r.iss), bytesOf(r.sub), bytesOf(r.aud), bytesOf(token))
-	if found.status == C.COSE_SIGNED {
-		answer = C.sized_table_authenticate(t.block.at, bytesOf(token))
-	}
-	return found, answer, nil
+	defer t.block.mutex.RUnlock()
+	return C.sized_table_admit(t.block.at, r.given, bytesOf(r.iss), bytesOf(r.sub), bytesOf(r.aud), bytesOf(token)), nil
 }

@@ -1,6 +1,7 @@
 /* The calls of the package cose that are made most, by Python's stable ABI. Each takes what Python has checked, and
  * returns the bytes of the library's structs, which cose/_numbers.py reads, or objects that hold them, as those of
- * cose/_fields.py do. The locks of blocks are held by Python, and errors are raised there. */
+ * cose/_fields.py do. The lock of a block that is written to is held by Python, and errors are raised there. A table
+ * has none: it is only read, by each call with a handle of its own. */
 #define Py_LIMITED_API 0x03090000
 #define PY_SSIZE_T_CLEAN
 #include <Python.h>

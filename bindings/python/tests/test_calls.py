@@ -66,7 +66,7 @@ class Same(unittest.TestCase):
 
     def table(self, keys: bytes) -> Tuple[cose.KeyTable, int]:
         table = cose.KeyTable(keys)
-        return table, table._block.at
+        return table, table._memory.at
 
     def test_verify(self) -> None:
         statuses = set()
@@ -301,7 +301,7 @@ class Others(unittest.TestCase):
     def test_message(self) -> None:
         message, table = mac0(bytes(20_000_000)), cose.KeyTable(KEYS)
         verifier = cose.Verifier(KEYS)
-        at = table._block.at
+        at = table._memory.at
         self.lets_others_run(lambda: _calls.verify(KEYS, False, b"", 0, message))
         self.lets_others_run(lambda: _calls.table_verify(at, b"", 0, message))
 
@@ -317,9 +317,9 @@ class Others(unittest.TestCase):
         long_token = mac0(cbor.encode({100: bytes(20_000_000)}))
         given = (b"", 0, 0, None)
         self.lets_others_run(lambda: _calls.verify_cwt(KEYS, False, *given, long_token))
-        self.lets_others_run(lambda: _calls.table_verify_cwt(table._block.at, *given, long_token))
+        self.lets_others_run(lambda: _calls.table_verify_cwt(table._memory.at, *given, long_token))
         tokens = (TOKEN,) * 20_000
-        kind, at = cose.Claims, table._block.at
+        kind, at = cose.Claims, table._memory.at
         self.lets_others_run(lambda: _calls.table_verify_cwts(at, *given, tokens, kind))
 
 

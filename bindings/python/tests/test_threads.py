@@ -1,17 +1,29 @@
-"""What is in use by one call isn't used by another, of a thread or of a function that is asked."""
+"""What one call writes isn't used by another, of a thread or of a function that is asked.
 
+What is only read, as a table, is shared by them.
+"""
+
+import itertools
 import threading
 import unittest
-from typing import Any, Callable, List
+from collections import Counter
+from functools import partial
+from typing import Any, Callable, Dict, List
+from unittest import mock
 
 import cose
-from support import EXAMPLES, KEYS, mac0
+from cose import _calls, cbor
+from support import EXAMPLES, KEYS, SECRET, mac0
 
 SIGN1_KEYS = (EXAMPLES / "sign1_key.cbor").read_bytes()
 GENUINE = (EXAMPLES / "sign1.cbor").read_bytes()
 # another message, whose signature nobody made
 FORGED = GENUINE.replace(b"This is the content.", b"This was forged")
 FORGED = FORGED.replace(b"\x54This was forged", b"\x4fThis was forged")
+# a secret that names HMAC 256/256, and the key of the genuine message
+NAMED = cbor.encode({1: 4, 3: 5, -1: SECRET})
+BOTH = cbor.encode([cbor.decode(NAMED), cbor.decode(SIGN1_KEYS)])
+NOW = 1444064943
 
 
 def is_genuine(given: cose.SignInput, genuine: List[bytes]) -> bool:
@@ -135,12 +147,120 @@ class Threads(unittest.TestCase):
                 self.assertEqual(verifier.verdict().payload_length, 16_000)
                 verifier.reset()
 
-    def test_table(self) -> None:
-        """A table answers each thread about its own message."""
-        table, found = cose.KeyTable(KEYS), []
-        messages = [mac0(b"%d" % it) for it in range(200)]
-        in_threads(4, lambda: found.append([cose.verify(table, it).payload for it in messages]))
-        self.assertEqual(found, [[b"%d" % it for it in range(200)]] * 4)
+
+def token(subject: str) -> bytes:
+    """A token that is long enough for other threads to run while it is verified."""
+    return mac0(cbor.encode({2: subject, 4: NOW + 1, 100: bytes(5_000)}))
+
+
+def forged(data: bytes) -> bytes:
+    """The same with another tag."""
+    return data[:-1] + bytes([data[-1] ^ 1])
+
+
+def answer(call: Callable[..., Any], data: bytes, **options: Any) -> Any:
+    """The payload of a message or the subject of a token, or the reason why it is refused."""
+    try:
+        found = call(data, **options)
+    except cose.Refused as refused:
+        return refused.reason
+    return found.sub if isinstance(found, cose.Claims) else found.payload
+
+
+class Tables(unittest.TestCase):
+    """A table is only read: calls of any number of threads verify under it at once."""
+
+    def setUp(self) -> None:
+        self.keys, self.terms = cose.KeyTable(BOTH), cose.TermsTable(BOTH, without_alg=True)
+
+    def messages(self, data: bytes, **options: Any) -> List[Any]:
+        """What both tables answer to a message."""
+        calls = partial(cose.verify, self.keys), self.terms.authenticate
+        return [answer(call, data, **options) for call in calls]
+
+    def tokens(self, data: bytes) -> List[Any]:
+        """What both tables answer to a token."""
+        calls = partial(cose.verify_cwt, self.keys), self.terms.admit
+        return [answer(call, data, now=NOW) for call in calls]
+
+    def test_answers(self) -> None:
+        """Each thread is answered about its own messages and tokens, good and forged."""
+        numbers, right, bad = itertools.count(), [], cose.Reason.BadAuth
+
+        def run() -> None:
+            name = str(next(numbers))
+            payload, claims = name.encode() * 5_000, token(name)
+            message = mac0(payload)
+            for _ in range(100):
+                found = [
+                    *self.messages(message),
+                    *self.messages(forged(message)),
+                    *self.tokens(claims),
+                    *self.tokens(forged(claims)),
+                ]
+                right.append(found == [payload, payload, bad, bad, name, name, bad, bad])
+
+        in_threads(4, run)
+        self.assertEqual(right, [True] * 400)
+
+    def test_many(self) -> None:
+        """So it is about many tokens."""
+        numbers, found = itertools.count(), {}
+
+        def run() -> None:
+            name = str(next(numbers))
+            tokens = [token(name), forged(token(name))] * 300
+            found[name] = cose.verify_many(self.keys, tokens, now=NOW)
+
+        in_threads(4, run)
+        self.assertEqual(sorted(found), ["0", "1", "2", "3"])
+        for name, answers in found.items():
+            self.assertEqual({it.sub for it in answers[::2]}, {name})
+            self.assertEqual({it.reason for it in answers[1::2]}, {cose.Reason.BadAuth})
+
+    def test_signatures(self) -> None:
+        """A function that is asked verifies under the same table, about other messages."""
+        found: List[Any] = []
+        cose.verify(self.keys, GENUINE, ecdsa=lambda it: is_genuine(it, found))
+        genuine = found.pop()
+
+        def ecdsa(given: cose.SignInput) -> bool:
+            found.extend(self.messages(mac0(b"hi")) + self.tokens(token("s")))
+            found.extend(it.sub for it in cose.verify_many(self.keys, [token("s")], now=NOW))
+            found.extend(self.messages(FORGED, ecdsa=lambda _: False))
+            return given.digest == genuine
+
+        def run() -> None:
+            for _ in range(20):
+                for message in (GENUINE, FORGED):
+                    found.extend(self.messages(message, ecdsa=ecdsa))
+
+        in_threads(4, run)
+        wanted = {b"hi": 640, "s": 960, cose.Reason.BadAuth: 800, b"This is the content.": 160}
+        self.assertEqual(Counter(found), wanted)
+
+    def test_at_once(self) -> None:
+        """No call under a table waits for another one, which waits for it here."""
+        calls: Dict[str, Callable[[], Any]] = {
+            "table_verify": lambda: cose.verify(self.keys, mac0(b"hi")),
+            "table_verify_cwt": lambda: cose.verify_cwt(self.keys, token("s"), now=NOW),
+            "table_verify_cwts": lambda: cose.verify_many(self.keys, [token("s")], now=NOW),
+            "table_authenticate": lambda: self.terms.authenticate(mac0(b"hi")),
+            "table_admit": lambda: self.terms.admit(token("s"), now=NOW),
+        }
+        for name, call in calls.items():
+            both, real, found = threading.Barrier(2, timeout=20), getattr(_calls, name), []
+
+            def meet(*given: Any, both: Any = both, real: Any = real) -> Any:
+                both.wait()
+                return real(*given)
+
+            def run(call: Callable[[], Any] = call, found: List[Any] = found) -> None:
+                found.append(call())
+
+            with self.subTest(name), mock.patch.object(_calls, name, meet):
+                in_threads(2, run)
+                self.assertEqual(len(found), 2)
 
 
 if __name__ == "__main__":

@@ -39,6 +39,9 @@ pub(crate) trait Memory {
     /// Its address. What the library keeps there points to nothing in the block itself.
     fn at(&mut self) -> *mut u8;
 
+    /// Its address, for calls that only read it: through this one nothing may be written.
+    fn at_to_read(&self) -> *const u8;
+
     /// Whether a block has the size and the alignment that the library asks for.
     fn holds(size: usize, align: usize) -> Result<(), Error>;
 }
@@ -46,6 +49,10 @@ pub(crate) trait Memory {
 impl<const N: usize> Memory for Block<N> {
     fn at(&mut self) -> *mut u8 {
         self.0.as_mut_ptr().cast()
+    }
+
+    fn at_to_read(&self) -> *const u8 {
+        self.0.as_ptr().cast()
     }
 
     fn holds(size: usize, align: usize) -> Result<(), Error> {

@@ -7,8 +7,8 @@ use crate::{raw, Block, Claims, Error, Options, Policy, Verdict};
 /// Memory for a [`KeyTable`] or a [`TermsTable`](crate::TermsTable).
 pub type TableBlock = Block<16_384>;
 
-/// A key set whose keys are read once, for many messages: at most 64 usable keys. It borrows its memory and the bytes of the set. It
-/// has the size [`Small`](crate::Small) alone.
+/// A key set whose keys are read once, for many messages: at most 64 usable keys. Any number of threads may verify under one table at
+/// once. It borrows its memory and the bytes of the set, and has the size [`Small`](crate::Small) alone.
 ///
 /// ```
 /// use cose::{Block, KeyTable, Options};
@@ -18,7 +18,7 @@ pub type TableBlock = Block<16_384>;
 ///     \x7d\x81\xe9\x64\xaa\xee\x5f\xbd\x8a\xdf\xb3\xf5\x33\x65\x7a\x9e\
 ///     \xf9\xf7\x82\xf0\x4b\x91\x87\x7b\x60\x04\x27\x2a\x03\x52\xf9\x60";
 /// let mut block = Block::new();
-/// let mut table = KeyTable::read(&mut block, keys)?;
+/// let table = KeyTable::read(&mut block, keys)?;
 /// assert_eq!(table.usable(), 1);
 /// for _ in 0..3 {
 ///     let verdict = table.verify(&Options::default(), message)?;
@@ -28,8 +28,8 @@ pub type TableBlock = Block<16_384>;
 /// ```
 #[derive(Debug)]
 pub struct KeyTable<'k> {
-    // what is in it leads to the keys, which stay for `'k` too
-    block: &'k mut TableBlock,
+    // nothing is written to it any more; what is in it leads to the keys, which stay for `'k` too
+    block: &'k TableBlock,
     usable: u64,
 }
 
@@ -43,23 +43,24 @@ impl<'k> KeyTable<'k> {
         TableBlock::holds(raw::cose_table_size(), raw::cose_table_align())?;
         // SAFETY: the block has the size and the alignment that the library asks for, and is borrowed, so that it stays where it is.
         unsafe { raw::cose_table_begin(block.at()) };
-        let mut table = KeyTable { block, usable: 0 };
+        let mut handle = raw::Table { at: block.at() };
         let mut key_set = raw::KeySet::default();
         // SAFETY: the block was begun, and the keys, of which it keeps slices, stay as they are while `'k` lasts, so as long as the
         // table.
         unsafe {
-            raw::cose_edge_table_read(&mut table.handle(), keys.as_ptr(), keys.len(), &mut key_set);
+            raw::cose_edge_table_read(&mut handle, keys.as_ptr(), keys.len(), &mut key_set);
         }
         if key_set.status != number::COMPLETE {
             return Err(Error::of(key_set.status, key_set.reason, key_set.place));
         }
-        table.usable = key_set.usable;
-        Ok(table)
+        let usable = key_set.usable;
+        Ok(KeyTable { block, usable })
     }
 
-    fn handle(&mut self) -> raw::Table {
+    /// A handle for one call, which only reads the block.
+    fn handle(&self) -> raw::Table {
         raw::Table {
-            at: self.block.at(),
+            at: self.block.at_to_read().cast_mut(),
         }
     }
 
@@ -75,17 +76,19 @@ impl<'k> KeyTable<'k> {
     ///
     /// The message is refused, or the externally supplied data is too long.
     pub fn verify<'m>(
-        &mut self,
+        &self,
         options: &Options<'_>,
         message: &'m [u8],
     ) -> Result<Verdict<'m>, Error> {
         let mut verdict = raw::Verdict::default();
         let mut input = raw::SignInput::BLANK;
-        // SAFETY: the block was begun; each pointer with its length is that of one slice, which is borrowed for the call; the call
-        // keeps none of them, and writes to the two structs, which are this function's own.
+        // SAFETY: the block has a table, and nobody writes to it while that borrows it: the call only reads it, as calls of other
+        // threads may at the same time, and the handle is this call's own. Each pointer with its length is that of one slice,
+        // which is borrowed for the call; the call keeps none of them, and writes to the two structs, which are this function's
+        // own.
         unsafe {
             raw::cose_edge_table_verify(
-                &mut self.handle(),
+                &self.handle(),
                 options.aad.as_ptr(),
                 options.aad.len(),
                 options.wanted as u8,
@@ -104,17 +107,17 @@ impl<'k> KeyTable<'k> {
     ///
     /// The message or the claims are refused, or the externally supplied data is too long.
     pub fn verify_cwt<'t>(
-        &mut self,
+        &self,
         aad: &[u8],
         policy: &Policy<'_>,
         token: &'t [u8],
     ) -> Result<Claims<'t>, Error> {
         let mut claims = raw::Claims::default();
-        // SAFETY: the block was begun; each pointer with its length is that of one slice, which is borrowed for the call, that of the
-        // policy too; the call keeps none of them, and writes to the struct, which is this function's own.
+        // SAFETY: of the block as in `verify`. Each pointer with its length is that of one slice, which is borrowed for the call, that of
+        // the policy too; the call keeps none of them, and writes to the struct, which is this function's own.
         unsafe {
             raw::cose_edge_table_verify_cwt(
-                &mut self.handle(),
+                &self.handle(),
                 aad.as_ptr(),
                 aad.len(),
                 &policy.raw(),

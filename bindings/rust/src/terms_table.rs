@@ -5,8 +5,9 @@ use crate::error::number;
 use crate::terms::admitted;
 use crate::{raw, Claims, Error, NotAdmitted, Requirements, TableBlock, Terms, Verdict};
 
-/// The keys of [`Terms`] that they permit, read once for many messages, and what the terms state besides: at most 64 keys. It
-/// borrows its memory, the keys and the external data. It has the size [`Small`](crate::Small) alone.
+/// The keys of [`Terms`] that they permit, read once for many messages, and what the terms state besides: at most 64 keys. Any number
+/// of threads may verify under one table at once. It borrows its memory, the keys and the external data, and has the size
+/// [`Small`](crate::Small) alone.
 ///
 /// ```
 /// use cose::{Block, Reason, Terms, TermsTable};
@@ -18,7 +19,7 @@ use crate::{raw, Claims, Error, NotAdmitted, Requirements, TableBlock, Terms, Ve
 ///     \xf9\xf7\x82\xf0\x4b\x91\x87\x7b\x60\x04\x27\x2a\x03\x52\xf9\x60";
 /// let mut block = Block::new();
 /// let terms = Terms { keys, ..Terms::default() };
-/// let mut table = TermsTable::read(&mut block, &terms)?;
+/// let table = TermsTable::read(&mut block, &terms)?;
 /// assert_eq!(table.usable(), 1);
 /// for _ in 0..3 {
 ///     let verdict = table.authenticate(message)?;
@@ -26,15 +27,15 @@ use crate::{raw, Claims, Error, NotAdmitted, Requirements, TableBlock, Terms, Ve
 /// }
 ///
 /// // one that is shorter than the terms allow is no key of the table
-/// let mut table = TermsTable::read(&mut block, &Terms { least_secret: 5, ..terms })?;
+/// let table = TermsTable::read(&mut block, &Terms { least_secret: 5, ..terms })?;
 /// assert_eq!(table.usable(), 0);
 /// assert_eq!(table.authenticate(message).unwrap_err().reason(), Some(Reason::NoKey));
 /// # Ok::<(), cose::Error>(())
 /// ```
 #[derive(Debug)]
 pub struct TermsTable<'k> {
-    // what is in it leads to the keys and to the external data, which stay for `'k` too
-    block: &'k mut TableBlock,
+    // nothing is written to it any more; what is in it leads to the keys and to the external data, which stay for `'k` too
+    block: &'k TableBlock,
     usable: u64,
 }
 
@@ -49,21 +50,22 @@ impl<'k> TermsTable<'k> {
         let terms = terms.raw()?;
         // SAFETY: the block has the size and the alignment that the library asks for, and is borrowed, so that it stays where it is.
         unsafe { raw::cose_table_begin(block.at()) };
-        let mut table = TermsTable { block, usable: 0 };
+        let mut handle = raw::Table { at: block.at() };
         let mut key_set = raw::KeySet::default();
         // SAFETY: the block was begun, and the keys and the external data, of which it keeps slices, stay as they are while `'k`
         // lasts, so as long as the table. The struct of terms is copied.
-        unsafe { raw::cose_edge_table_read_under(&mut table.handle(), &terms, &mut key_set) };
+        unsafe { raw::cose_edge_table_read_under(&mut handle, &terms, &mut key_set) };
         if key_set.status != number::COMPLETE {
             return Err(Error::of(key_set.status, key_set.reason, key_set.place));
         }
-        table.usable = key_set.usable;
-        Ok(table)
+        let usable = key_set.usable;
+        Ok(TermsTable { block, usable })
     }
 
-    fn handle(&mut self) -> raw::Table {
+    /// A handle for one call, which only reads the block.
+    fn handle(&self) -> raw::Table {
         raw::Table {
-            at: self.block.at(),
+            at: self.block.at_to_read().cast_mut(),
         }
     }
 
@@ -78,14 +80,15 @@ impl<'k> TermsTable<'k> {
     /// # Errors
     ///
     /// The message is refused.
-    pub fn authenticate<'m>(&mut self, message: &'m [u8]) -> Result<Verdict<'m>, Error> {
+    pub fn authenticate<'m>(&self, message: &'m [u8]) -> Result<Verdict<'m>, Error> {
         let mut verdict = raw::Verdict::default();
         let mut input = raw::SignInput::BLANK;
-        // SAFETY: the block was begun; the pointer with its length is that of one slice, which is borrowed for the call; the call
-        // doesn't keep it, and writes to the two structs, which are this function's own.
+        // SAFETY: the block has a table, and nobody writes to it while that borrows it: the call only reads it, as calls of other
+        // threads may at the same time, and the handle is this call's own. The pointer with its length is that of one slice,
+        // which is borrowed for the call; the call doesn't keep it, and writes to the two structs, which are this function's own.
         unsafe {
             raw::cose_edge_table_authenticate(
-                &mut self.handle(),
+                &self.handle(),
                 message.as_ptr(),
                 message.len(),
                 &mut verdict,
@@ -104,17 +107,17 @@ impl<'k> TermsTable<'k> {
     ///
     /// The message or the claims are refused, a requirement isn't met, or is out of its range.
     pub fn admit<'t>(
-        &mut self,
+        &self,
         requirements: &Requirements<'_>,
         token: &'t [u8],
     ) -> Result<Claims<'t>, NotAdmitted> {
         let requirements = requirements.raw()?;
         let mut claims = raw::Claims::default();
-        // SAFETY: the block was begun; each pointer with its length is that of one slice, which is borrowed for the call, those of the
-        // requirements too; the call keeps none of them, and writes to the struct of claims, which is this function's own.
+        // SAFETY: of the block as in `authenticate`. Each pointer with its length is that of one slice, which is borrowed for the call,
+        // those of the requirements too; the call keeps none of them, and writes to the struct of claims, which is this function's own.
         unsafe {
             raw::cose_edge_table_admit(
-                &mut self.handle(),
+                &self.handle(),
                 &requirements,
                 token.as_ptr(),
                 token.len(),

@@ -525,19 +525,33 @@ small = SimpleNamespace(**{name: _bound[name] for name in {*_bound} - {*_SIZES.v
 large = SimpleNamespace(**{name: _bound[it] for name, it in _SIZES.items()})
 
 
-class Block:
-    """Memory at a multiple of an alignment, which doesn't move, that one call at a time uses.
+class Memory:
+    """Memory at a multiple of an alignment, which doesn't move.
+
+    That of a table is written where the keys are read, by who makes the table. From then on it is only
+    read, so that any number of threads may verify at once, each call by a handle of its own.
+    """
+
+    def __init__(self, size: int, align: int) -> None:
+        self._memory: Any = ctypes.create_string_buffer(size + align)
+        start = ctypes.addressof(self._memory)
+        self.at = start + -start % align
+
+    def handle(self) -> Any:
+        """A handle for one call."""
+        return byref(HandleStruct(self.at))
+
+
+class Block(Memory):
+    """Memory that is written to, so that one call at a time uses it.
 
     `with block as handle:` is one use. Another thread waits until it ends. A use within a use, as by
     a function that `verdict` asks, raises `RuntimeError`, and a use after `close` `ValueError`.
     """
 
     def __init__(self, kind: str, size: int, align: int) -> None:
-        self._kind = kind
-        self._memory: Any = ctypes.create_string_buffer(size + align)
-        start = ctypes.addressof(self._memory)
-        self.at = start + -start % align
-        self._handle = byref(HandleStruct(self.at))
+        super().__init__(size, align)
+        self._kind, self._handle = kind, self.handle()
         # the thread that uses the block passes it again, and is seen by what it says of itself
         self._lock, self._is_used = threading.RLock(), False
 

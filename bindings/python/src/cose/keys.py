@@ -12,23 +12,22 @@ from typing import Any, List, Mapping, Optional, Union
 from . import cbor, key_forms
 from ._answers import fail
 from ._arguments import Buffer, bytes_of, number_of
-from ._library import Block, KeySetStruct, Status, small
+from ._library import KeySetStruct, Memory, Status, small
 
 
 class KeyTable:
     """A COSE_Key or a COSE_KeySet (RFC 9052 section 7) that is read once, for many messages.
 
-    It holds up to 64 usable keys. Any number of threads may use it. Raises `KeysRefused`.
+    It holds up to 64 usable keys. Any number of threads may use it at once. Raises `KeysRefused`.
     """
 
     def __init__(self, keys: Buffer) -> None:
         self._data = bytes_of(keys, "keys")
-        # the memory of the table, of which one use at a time may be
-        self._block = Block("table", small.table_size(), small.table_align())
-        read = KeySetStruct()
-        with self._block as handle:
-            small.table_begin(self._block.at)
-            small.edge_table_read(handle, self._data, len(self._data), byref(read))
+        # the memory of the table, which is only read once the keys are
+        self._memory = Memory(small.table_size(), small.table_align())
+        handle, read = self._memory.handle(), KeySetStruct()
+        small.table_begin(self._memory.at)
+        small.edge_table_read(handle, self._data, len(self._data), byref(read))
         if read.status != Status.COMPLETE:
             fail(read)
         self._usable: int = read.usable

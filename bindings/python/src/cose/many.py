@@ -11,7 +11,7 @@ from ._answers import Ecdsa, error_of
 from ._arguments import Buffer, bytes_of
 from ._library import ClaimsStruct, Status
 from .errors import Refused, SignatureUnverified
-from .keys import Keys, KeyTable, data_of
+from .keys import Keys, KeyTable
 from .tokens import Claims, policy_of, verify_cwt
 
 Answer = Union[Claims, Refused, SignatureUnverified]
@@ -82,22 +82,20 @@ def verify_many(
         has no whole item of CBOR, the rest of it is its last token.
     now, leeway, audience, aad, ecdsa: as in `cose.verify_cwt`.
 
-    While the library verifies tokens, other threads run: several may call this at once. Raises
-    `KeysRefused`.
+    While the library verifies tokens, other threads run: several may call this at once, under one
+    table too. Raises `KeysRefused`.
     """
     policy, external = policy_of(now, leeway, audience), bytes_of(aad, "aad")
-    # a table of its own, since one call at a time uses it
-    table = KeyTable(data_of(keys))
+    table = keys if isinstance(keys, KeyTable) else KeyTable(keys)
     answers: List[Answer] = []
 
     def by_itself(token: bytes) -> Claims:
         given = {"leeway": leeway, "audience": audience, "aad": external, "ecdsa": ecdsa}
         return verify_cwt(table, token, now=policy[0], **given)  # type: ignore[arg-type]
 
-    block = table._block
+    at = table._memory.at
     for batch in _batches(tokens):
-        with block:
-            found, others = _calls.table_verify_cwts(block.at, external, *policy, batch, Claims)
+        found, others = _calls.table_verify_cwts(at, external, *policy, batch, Claims)
         for place in others:
             found[place] = _answer(batch[place], found[place], by_itself)
         answers += found

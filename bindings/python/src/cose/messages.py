@@ -95,8 +95,7 @@ _AUTHENTIC, _SIGNED = Status.AUTHENTIC.value, Status.SIGNED.value
 def _read(keys: Keys, aad: bytes, wanted: int, message: bytes, large: bool) -> bytes:
     """The verdict, and of a message that is signed what its signature is verified with."""
     if isinstance(keys, KeyTable) and not large:
-        with keys._block:
-            return _calls.table_verify(keys._block.at, aad, wanted, message)
+        return _calls.table_verify(keys._memory.at, aad, wanted, message)
     return _calls.verify(data_of(keys), large, aad, wanted, message)
 
 

@@ -8,7 +8,7 @@ from typing import Iterable, Optional
 from . import _calls
 from ._answers import Ecdsa, fail
 from ._arguments import Buffer, Kind, bytes_of
-from ._library import Block, ClaimsStruct, KeySetStruct, Status, small
+from ._library import ClaimsStruct, KeySetStruct, Memory, Status, small
 from .admitting import Terms, claims_under, requirements_of
 from .keys import Keys
 from .messages import Message, message_of
@@ -20,8 +20,8 @@ _AUTHENTIC, _SIGNED = Status.AUTHENTIC.value, Status.SIGNED.value
 class TermsTable:
     """The keys that terms permit, read once for many messages, and what the terms state besides.
 
-    It holds up to 64 such keys. Any number of threads may use it, and so may
-    `ecdsa` while it is asked. Headers have 1,024 bytes at most.
+    It holds up to 64 such keys. Any number of threads may use it at once, and so may `ecdsa` while it
+    is asked. Headers have 1,024 bytes at most.
 
     keys: a COSE_Key, a COSE_KeySet, or a `KeyTable`.
     algorithms to payload_limit, and aad, wanted: as in `cose.authenticate`.
@@ -54,12 +54,11 @@ class TermsTable:
             understood,
             payload_limit,
         )
-        # the memory of the table, of which one use at a time may be
-        self._block = Block("table", small.table_size(), small.table_align())
-        read = KeySetStruct()
-        with self._block as handle:
-            small.table_begin(self._block.at)
-            small.edge_table_read_under(handle, byref(self._terms.struct), byref(read))
+        # the memory of the table, which is only read once the keys are
+        self._memory = Memory(small.table_size(), small.table_align())
+        handle, read = self._memory.handle(), KeySetStruct()
+        small.table_begin(self._memory.at)
+        small.edge_table_read_under(handle, byref(self._terms.struct), byref(read))
         if read.status != Status.COMPLETE:
             fail(read)
         self._usable: int = read.usable
@@ -77,12 +76,7 @@ class TermsTable:
         Raises `Refused`, and `SignatureUnverified` for a COSE_Sign1 without `ecdsa`.
         """
         data = bytes_of(message, "message")
-        with self._block:
-            found = _calls.table_authenticate(self._block.at, data)
-        return self._message(data, found, ecdsa)
-
-    def _message(self, data: bytes, found: bytes, ecdsa: Optional[Ecdsa]) -> Message:
-        """The message of what the table answers, asked about while other threads may use it."""
+        found = _calls.table_authenticate(self._memory.at, data)
         return message_of(found, None, ecdsa, (data, self._terms.struct.kind, False))
 
     def admit(
@@ -108,14 +102,9 @@ class TermsTable:
         requirements = requirements_of(
             now, leeway, issuer, subject, audience, present, max_lifetime, max_age, without_exp
         )
-        required = bytes(requirements)
-        # one use, of a token that is signed too
-        with self._block:
-            found = _calls.table_admit(self._block.at, required, data)
-            is_signed = found[0] == _SIGNED
-            verdict = _calls.table_authenticate(self._block.at, data) if is_signed else b""
-        if is_signed:
-            return claims_under(requirements, self._message(data, verdict, ecdsa).payload, False)
+        found = _calls.table_admit(self._memory.at, bytes(requirements), data)
+        if found[0] == _SIGNED:
+            return claims_under(requirements, self.authenticate(data, ecdsa=ecdsa).payload, False)
         if found[0] != _AUTHENTIC:
             fail(ClaimsStruct.from_buffer_copy(found))
         return claims_of(data, found)

@@ -182,8 +182,7 @@ def claims(
 
 def _read(keys: Keys, aad: bytes, policy: Policy, token: bytes, large: bool) -> bytes:
     if isinstance(keys, KeyTable) and not large:
-        with keys._block:
-            return _calls.table_verify_cwt(keys._block.at, aad, *policy, token)
+        return _calls.table_verify_cwt(keys._memory.at, aad, *policy, token)
     return _calls.verify_cwt(data_of(keys), large, aad, *policy, token)
 
 

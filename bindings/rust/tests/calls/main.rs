@@ -13,6 +13,7 @@ mod signing;
 mod sizes;
 mod stated;
 mod terms_table;
+mod threads;
 mod tokens;
 
 /// The bytes of hexadecimal digits.

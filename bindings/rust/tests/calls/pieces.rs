@@ -170,7 +170,7 @@ fn refused_keys() {
 fn a_table() {
     let (keys, message) = (hex(JEFE), hex(HI));
     let mut block = Block::new();
-    let mut table = KeyTable::read(&mut block, &keys).expect("the keys are good");
+    let table = KeyTable::read(&mut block, &keys).expect("the keys are good");
     assert_eq!(table.usable(), 1);
     for _ in 0..2 {
         let Ok(Verdict::Authentic(found)) = table.verify(&Options::default(), &message) else {
@@ -287,29 +287,25 @@ fn other_threads() {
     assert_eq!(found.map(|found| found.taken), Ok(44));
 }
 
-/// A maker and a table go to other threads, and each call has them alone: `RwLock` wants both to be `Sync` too.
+/// A maker goes to other threads, and each call has it alone: `RwLock` wants it to be `Sync` too.
 #[test]
-fn threads_share_a_maker_and_a_table() {
-    let (keys, message) = (hex(JEFE), hex(HI));
+fn threads_share_a_maker() {
+    let keys = hex(JEFE);
     let making = Making {
         alg: MacAlg::Hmac256,
         kid: b"",
         aad: b"",
     };
-    let (mut block, mut table_block) = (Block::new(), Block::new());
-    let (mut head, mut tail) = ([0; HEAD_ROOM], [0; TAIL_ROOM]);
+    let (mut block, mut head, mut tail) = (Block::new(), [0; HEAD_ROOM], [0; TAIL_ROOM]);
     let (maker, head) =
         Maker::begin(&mut block, &keys, &making, 400, &mut head).expect("the key is good");
     let maker = RwLock::new(maker);
-    let table = RwLock::new(KeyTable::read(&mut table_block, &keys).expect("the keys are good"));
     let used = Mutex::new(0);
     thread::scope(|scope| {
         for _ in 0..4 {
             scope.spawn(|| {
                 for _ in 0..100 {
                     *used.lock().expect("no panic") += maker.write().expect("no panic").piece(&[0]);
-                    let mut table = table.write().expect("no panic");
-                    assert!(table.verify(&Options::default(), &message).is_ok());
                 }
             });
         }

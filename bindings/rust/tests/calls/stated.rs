@@ -246,7 +246,7 @@ fn run_terms<S: Size>(setting: &Setting, test: &Json) {
 fn run_terms_in_table(setting: &Setting, test: &Json) {
     let (token, wanted) = (token_of(test), expected(test));
     let mut block = Block::new();
-    let mut table = TermsTable::read(&mut block, &setting.terms()).expect("the keys are good");
+    let table = TermsTable::read(&mut block, &setting.terms()).expect("the keys are good");
     for _ in 0..2 {
         let seen = admitted(table.admit(&setting.requirements(), &token));
         assert_eq!(seen, wanted, "TermsTable::admit: {test:?}");
@@ -313,7 +313,7 @@ fn checked<S: Size>(setting: &Setting, test: &Json) -> Result<&'static str, Stri
 fn checked_in_table(setting: &Setting, test: &Json) -> Result<&'static str, String> {
     let (token, requirements) = (token_of(test), setting.requirements());
     let mut block = Block::new();
-    let mut table = TermsTable::read(&mut block, &setting.terms()).map_err(refused)?;
+    let table = TermsTable::read(&mut block, &setting.terms()).map_err(refused)?;
     match table.admit(&requirements, &token) {
         Err(NotAdmitted::Error(Error::Signed)) => {
             let verdict = table.authenticate(&token).map_err(refused)?;

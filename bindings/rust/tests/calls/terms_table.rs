@@ -1,8 +1,5 @@
 //! Keys that terms permit, read once: what the rows don't ask.
 
-use std::sync::Mutex;
-use std::thread;
-
 use crate::hex;
 use cose::{
     Block, Error, NotAdmitted, Options, Reason, Refusal, Requirement, Requirements, Terms,
@@ -10,10 +7,10 @@ use cose::{
 };
 
 /// A symmetric key of the bytes `Jefe` that names HMAC 256/256.
-const KEY: &[u8] = b"\xa3\x01\x04\x03\x05\x20\x44Jefe";
+pub(crate) const KEY: &[u8] = b"\xa3\x01\x04\x03\x05\x20\x44Jefe";
 
 /// A token of the claims `{4: 2}` under it, whose tag is what Python's `hmac` computes of the `MAC_structure`.
-const EXPIRING: &str =
+pub(crate) const EXPIRING: &str =
     "d18443a10105a043a104025820cf9773e8020b7023f0385be16ff2e8fb3e15f1400e940159defdcfceda2462fe";
 
 /// [`HI`](crate::HI) without its tag.
@@ -21,7 +18,7 @@ fn untagged() -> Vec<u8> {
     hex(&crate::HI[2..])
 }
 
-fn terms(keys: &[u8]) -> Terms<'_> {
+pub(crate) fn terms(keys: &[u8]) -> Terms<'_> {
     Terms {
         keys,
         ..Terms::default()
@@ -39,7 +36,7 @@ fn as_many_keys_as_it_holds() {
         algorithms: Some(&[5]),
         ..terms(&keys)
     };
-    let mut table = TermsTable::read(&mut block, &stated).expect("one key is permitted");
+    let table = TermsTable::read(&mut block, &stated).expect("one key is permitted");
     assert_eq!(table.usable(), 1);
     assert!(table.authenticate(&hex(crate::HI)).is_ok());
 
@@ -71,7 +68,7 @@ fn the_terms_are_kept() {
         payload_limit: Some(2),
         ..terms(KEY)
     };
-    let mut table = TermsTable::read(&mut block, &stated).expect("the keys are good");
+    let table = TermsTable::read(&mut block, &stated).expect("the keys are good");
     let Ok(Verdict::Authentic(found)) = table.authenticate(&message) else {
         panic!("refused")
     };
@@ -98,7 +95,7 @@ fn the_terms_are_kept() {
             Reason::NoKey,
         ),
     ] {
-        let mut table = TermsTable::read(&mut block, &stated).expect("the keys are good");
+        let table = TermsTable::read(&mut block, &stated).expect("the keys are good");
         let error = table.authenticate(&message).unwrap_err();
         assert_eq!(error.reason(), Some(reason));
     }
@@ -156,7 +153,7 @@ fn what_is_no_terms() {
 #[test]
 fn requirements() {
     let (message, mut block) = (hex(crate::HI), Block::new());
-    let mut table = TermsTable::read(&mut block, &terms(KEY)).expect("the keys are good");
+    let table = TermsTable::read(&mut block, &terms(KEY)).expect("the keys are good");
     // the payload is no map of claims
     let now = Requirements {
         now: 1,
@@ -185,21 +182,4 @@ fn requirements() {
         ..now
     };
     assert_eq!(table.admit(&issuer, &token).unwrap_err(), unmet);
-}
-
-#[test]
-fn threads_share_a_table() {
-    let (message, mut block) = (hex(crate::HI), Block::new());
-    let table = TermsTable::read(&mut block, &terms(KEY)).expect("the keys are good");
-    let table = Mutex::new(table);
-    thread::scope(|scope| {
-        for _ in 0..4 {
-            scope.spawn(|| {
-                for _ in 0..100 {
-                    let mut table = table.lock().expect("no panic");
-                    assert!(table.authenticate(&message).is_ok());
-                }
-            });
-        }
-    });
 }
