@@ -591,18 +591,18 @@ unsafe extern "C" {
         verifier: &mut Verifier, is_protected: u32, name: *const u8, name_length: usize, into: *mut u8,
         into_room: usize, item: &mut Item,
     );
-    pub(crate) fn cose_edge_open_table(
-        verifier: &mut Verifier, table: &Table, aad: *const u8, aad_length: usize, wanted: u8, status: &mut Status,
-    );
-    pub(crate) fn cose_edge_open_table_detached(
-        verifier: &mut Verifier, table: &Table, aad: *const u8, aad_length: usize, wanted: u8, payload_length: u64,
-        status: &mut Status,
-    );
     pub(crate) fn cose_edge_large_open_table(
         verifier: &mut LargeVerifier, table: &Table, aad: *const u8, aad_length: usize, wanted: u8, status: &mut Status,
     );
     pub(crate) fn cose_edge_large_open_table_detached(
         verifier: &mut LargeVerifier, table: &Table, aad: *const u8, aad_length: usize, wanted: u8, payload_length: u64,
+        status: &mut Status,
+    );
+    pub(crate) fn cose_edge_open_table(
+        verifier: &mut Verifier, table: &Table, aad: *const u8, aad_length: usize, wanted: u8, status: &mut Status,
+    );
+    pub(crate) fn cose_edge_open_table_detached(
+        verifier: &mut Verifier, table: &Table, aad: *const u8, aad_length: usize, wanted: u8, payload_length: u64,
         status: &mut Status,
     );
     pub(crate) fn cose_edge_table_read_under(table: &mut Table, terms: &Terms, key_set: &mut KeySet);

@@ -275,10 +275,10 @@ taken &cose_verifier -> u64
 held &cose_verifier -> u64
 edge_header &cose_verifier u32 i64 room &cose_item
 edge_header_named &cose_verifier u32 bytes room &cose_item
-edge_open_table &cose_verifier &cose_table bytes u8 &cose_status
-edge_open_table_detached &cose_verifier &cose_table bytes u8 u64 &cose_status
 edge_large_open_table &cose_large_verifier &cose_table bytes u8 &cose_status
 edge_large_open_table_detached &cose_large_verifier &cose_table bytes u8 u64 &cose_status
+edge_open_table &cose_verifier &cose_table bytes u8 &cose_status
+edge_open_table_detached &cose_verifier &cose_table bytes u8 u64 &cose_status
 edge_table_read_under &cose_table &cose_terms &cose_key_set
 edge_table_authenticate &cose_table bytes &cose_message_verdict &cose_signature_input
 edge_table_admit &cose_table &cose_requirements bytes &cose_claims_set
