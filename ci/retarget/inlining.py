@@ -6,15 +6,18 @@ what the functions take of flash and of the stack.
 """
 from . import forms
 
-# what makes a value as large as a store, or may move one: where it is inlined the value is made where it stays, so that no copy is on
-# the stack
+# what makes a value as large as a store or a running MAC, or may move one: where it is inlined the value is made where it stays, so that no
+# copy is on the stack
 INLINED = {
+    "cose_c::fed_keys::FedKeysKeyMeaning::begin_mac",
+    "cose_c::table::keys::RefTableKeysKeyMeaning::begin_mac",
     "cose_map::key_table::KeyTable::new",
     "cose_map::map::labels::Labels::none",
     "cose_map::map::labels::keys::Keys::none",
     "cose_map::map::labels::others::Others::none",
     "cose_map::map::lookup::Lookup::new",
     "cose_map::map::unordered::Unordered::none",
+    "cose_map::prepared_table::PreparedTable::begin_mac",
     "cose_map::prepared_table::PreparedTable::empty",
     "cose_msg::reader::Reader::new",
     "cose_msg::verifier::Verifier::detached",
