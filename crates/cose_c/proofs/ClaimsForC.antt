@@ -11,7 +11,7 @@ use Rattle.cose_cwt.specs.Claims.{ClaimsValue, claims_of}
 use Rattle.cose_c.specs.declared.numbers.CoseStatus.{CoseStatus}
 use Rattle.cose_c.specs.declared.numbers.CoseVerdict.{CoseVerdict}
 use Rattle.cose_c.specs.declared.cose_claims.CoseClaims.{CoseClaims}
-use Rattle.cose_c.specs.Claims.{Gives, GivesTokenIn, claims_given, policy_for, policy_named, status_in, unless_refused, without_payload}
+use Rattle.cose_c.specs.Claims.{Gives, GivesTokenIn, claims_given, policy_for, policy_named, status_in, unless_refused}
 use Rattle.cose_c.specs.Deciding.{always}
 use Rattle.cose_c.specs.Message.{Covers, is_accepted, payload_read, verdict_read}
 use Rattle.cose_c.specs.Numbers.{one_message, unless_signed, verdict_numbers}

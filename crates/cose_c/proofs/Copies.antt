@@ -2,7 +2,6 @@
 use Rattle.std.proofs.Common.{◌≡◌, ℕ, ◌≤◌, List, length, take, ap, ◌∙◌, arith}
 use Rattle.std.proofs.lemmas.Bool.Decides.{nat_tests}
 use Rattle.std.proofs.Math.Seq.{take-length}
-use Rattle.std.specs.Prelude.{min}
 use Rattle.cose_c.specs.Input.{Gives, GivesWhole}
 
 pub all_given : (bytes field : List ℕ) (room count : ℕ) → length bytes ≤ room → Gives bytes field room count → GivesWhole bytes field count

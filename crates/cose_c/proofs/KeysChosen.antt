@@ -3,7 +3,6 @@ use Rattle.std.proofs.Common.{◌≡◌, ℕ, Bool, true, false, List, [], ◌�
 use Rattle.std.specs.Prelude.{ℤ, ◌&&◌, filter, filter_map, is_some, option_and_then}
 use Rattle.std.specs.List.{cons_option}
 use Rattle.cose_head.specs.Placed.{Placed}
-use Rattle.cose_head.specs.declared.reason.Reason.{Reason}
 use Rattle.cose_head.specs.declared.reason.Reason.TheVariants.{UnknownAlg}
 use Rattle.cose_map.specs.Choice.{Question, chosen, fitting, is_answerable, only_one}
 use Rattle.cose_map.specs.Key.Value.{KeyValue}

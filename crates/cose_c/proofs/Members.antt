@@ -1,7 +1,7 @@
 -- The strings of a confirmation are within its item.
-use Rattle.std.proofs.Common.{◌≡◌, ℕ, ◌+◌, ◌≤◌, List, length, take, drop, Option, Some, None, Ok, refl, sym, ap, subst, ◌∙◌, arith}
+use Rattle.std.proofs.Common.{◌≡◌, ℕ, ◌+◌, ◌≤◌, List, length, take, drop, Option, Some, None, Ok, refl, ap, arith}
 use Rattle.std.proofs.lemmas.List.{length-drop}
-use Rattle.std.specs.Prelude.{IfSome, option_map}
+use Rattle.std.specs.Prelude.{IfSome}
 use Rattle.cose_head.specs.Placed.{Placed, bytes_in, head_of_item, look}
 use Rattle.cose_head.specs.PlacedLaws.{end_of}
 use Rattle.cose_map.specs.Label.{LabelValue}

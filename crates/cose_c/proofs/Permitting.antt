@@ -1,6 +1,6 @@
 -- Where nothing is restricted, each key is permitted.
 use Rattle.std.proofs.Common.{◌≡◌, Bool, true, false, List, [], ◌∷◌, Option, Some, None, Ok, Err, refl, ap}
-use Rattle.std.specs.Prelude.{◌&&◌, ◌||◌, not, filter}
+use Rattle.std.specs.Prelude.{◌||◌, filter}
 use Rattle.std.proofs.Math.Dec.{leb-zero}
 use Rattle.cose_map.specs.Key.Value.{KeyValue, MaterialValue, elliptic, symmetric}
 use Rattle.cose_map.specs.Label.{LabelValue, number, words}

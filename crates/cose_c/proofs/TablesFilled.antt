@@ -1,5 +1,5 @@
 -- Keys that are few are those of a table, which has room for more.
-use Rattle.std.proofs.Common.{◌≡◌, arith, ℕ, Bool, true, false, List, length, Option, Some, None, Ok, Err, refl, if◌then◌else◌}
+use Rattle.std.proofs.Common.{◌≡◌, arith, ℕ, Bool, true, false, List, length, Option, Some, Ok, Err, refl, if◌then◌else◌}
 use Rattle.std.specs.Prelude.{◌≤◌, nat_lt, option_map}
 use Rattle.std.proofs.lemmas.Bool.{ltb-false, le-ltb}
 use Rattle.cose_map.specs.Key.Value.{KeyValue}

@@ -1,5 +1,5 @@
 -- A table that is read under terms: what is answered, and what is left in the block.
-use Rattle.std.proofs.Common.{◌≡◌, ℕ, Bool, true, false, List, [], length, Option, Some, None, Result, Ok, Err, refl, sym, ap, ◌∙◌, if◌then◌else◌}
+use Rattle.std.proofs.Common.{◌≡◌, Bool, true, false, List, [], Option, Some, None, Result, Ok, Err, refl, sym, ap, ◌∙◌, if◌then◌else◌}
 use Rattle.cose_map.specs.Key.Value.{KeyValue}
 use Rattle.cose_map.specs.Label.{LabelValue}
 use Rattle.cose_map.specs.Map.Read.{Read}
@@ -9,7 +9,7 @@ use Rattle.cose_c.specs.declared.numbers.CoseStatus.{CoseStatus}
 use Rattle.cose_c.specs.declared.stated.CoseTerms.{CoseTerms}
 use Rattle.cose_c.specs.declared.table.keys.TableKeys.{TableKeys}
 use Rattle.cose_c.specs.declared.table.kept.TableTerms.{TableTerms}
-use Rattle.cose_c.specs.KeySet.{key_set_numbers, no_key_set}
+use Rattle.cose_c.specs.KeySet.{key_set_numbers}
 use Rattle.cose_c.specs.Numbers.{plain_status, refused_status}
 use Rattle.cose_c.specs.Stated.{is_unknown, labels_stated, setting_among}
 use Rattle.cose_c.specs.Table.{keys_held, keys_in, keys_read}

@@ -1,7 +1,7 @@
 -- What is permitted and required, on examples, by computing.
-use Rattle.std.specs.Prelude.{ℤ, pos, negsuc, Bool, true, false, List, [], ◌∷◌, map, replicate, Option, Some, None, Ok, Err, refl, ◌≡◌}
+use Rattle.std.specs.Prelude.{ℤ, pos, negsuc, Bool, true, false, List, [], ◌∷◌, map, replicate, Option, Some, None, refl, ◌≡◌}
 use Rattle.cose_map.specs.Key.Value.{KeyValue, MaterialValue, coordinate, elliptic, symmetric}
-use Rattle.cose_map.specs.Label.{LabelValue, number, words}
+use Rattle.cose_map.specs.Label.{LabelValue, number}
 use Rattle.cose_cwt.specs.declared.requirements.Claim.TheVariants.{Iss, Sub, Aud, Exp, Nbf, Iat, Cti}
 use Rattle.cose_cwt.specs.declared.requirements.Requirement.TheVariants.{Present, Issuer}
 use Rattle.cose_cwt.specs.Requirements.{unmet_at}

@@ -1,5 +1,5 @@
 -- Tables that are read under terms, on examples, by computing.
-use Rattle.std.specs.Prelude.{ℕ, pos, List, [], ◌∷◌, map, replicate, Err, refl, ◌≡◌}
+use Rattle.std.specs.Prelude.{ℕ, pos, List, [], ◌∷◌, replicate, Err, refl, ◌≡◌}
 use Rattle.std.specs.Borrow.{Bor}
 use Rattle.cose_head.specs.Head.{bare_head}
 use Rattle.cose_head.specs.Placed.{children_of, head_of_item, items_from, look}

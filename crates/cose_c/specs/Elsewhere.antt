@@ -1,5 +1,5 @@
 -- A verifier in a block whose message the caller authenticates: what it is asked, and what it gets for what it states.
-use Rattle.std.specs.Prelude.{◌≡◌, ℕ, Bool, true, false, ◌&&◌, ◌==◌, if◌then◌else◌, List, [], ◌∷◌, take, Option, Some, None, is_some, Result, Ok, Err, length}
+use Rattle.std.specs.Prelude.{◌≡◌, ℕ, Bool, true, false, ◌&&◌, ◌==◌, if◌then◌else◌, List, [], ◌∷◌, take, Option, Some, None, is_some, Result, Ok, Err}
 use Rattle.std.specs.List.{concat}
 use Rattle.cose_head.specs.Algorithm.{algorithm_number, auth_length_of, is_mac_of}
 use Rattle.cose_map.specs.Key.Value.{MaterialValue, YValue, symmetric, elliptic, coordinate, sign}

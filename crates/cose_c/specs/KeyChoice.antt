@@ -1,5 +1,5 @@
 -- Which key of a set a message is verified with, and why a key isn't (RFC 9052 section 7.1).
-use Rattle.std.specs.Prelude.{ℕ, ℤ, true, false, List, [], ◌∷◌, Option, Some, None, Result, Ok, Err, if◌then◌else◌, option_and_then, ◌==◌}
+use Rattle.std.specs.Prelude.{ℕ, true, false, List, [], ◌∷◌, Option, Some, None, Result, Ok, Err, if◌then◌else◌, option_and_then, ◌==◌}
 use Rattle.cose_head.specs.declared.kind.Kind.{Kind}
 use Rattle.cose_head.specs.declared.kind.Kind.TheVariants as kinds
 use Rattle.cose_head.specs.Placed.{Placed}
@@ -24,7 +24,6 @@ use Rattle.cose_msg.specs.Task.{rules_of, to_inspect}
 use Rattle.cose_c.specs.declared.key_choice.CoseKeyFit.{CoseKeyFit}
 use Rattle.cose_c.specs.declared.numbers.CoseStatus.{CoseStatus}
 use Rattle.cose_c.specs.declared.stated.CoseTerms.{CoseTerms}
-use Rattle.cose_c.specs.Item.{item_at}
 use Rattle.cose_c.specs.Numbers.{plain_status, refused_status}
 use Rattle.cose_c.specs.Parameter.{bucket_by}
 use Rattle.cose_c.specs.Permitted.{PermissionValue, is_fitting, permits}

@@ -1,9 +1,8 @@
 -- A COSE_Sign1 that is made over pieces, with a signature of the caller's.
 use Rattle.std.specs.Prelude.{◌≡◌, ℕ, ℤ, Bool, true, false, List, length, Option, None, Some, nat_lt, if◌then◌else◌}
 use Rattle.cose_head.specs.declared.algorithm.Alg.{Alg}
-use Rattle.cose_head.specs.Algorithm.{algorithm_numbered, auth_length_of, is_mac_of}
+use Rattle.cose_head.specs.Algorithm.{algorithm_numbered, is_mac_of}
 use Rattle.cose_msg.specs.declared.make.sign1_maker.SignFault.{SignFault}
-use Rattle.cose_msg.specs.declared.make.sign1_maker.SignFault.TheVariants as faults
 use Rattle.cose_msg.specs.Signing.{IsSigning, IsToBeSigned, bytes_to_come, sign_fault}
 use Rattle.cose_c.specs.declared.held.signer.Signing.{Signing}
 use Rattle.cose_c.specs.declared.held.signer.Signing.TheVariants as states

@@ -1,5 +1,5 @@
 -- A table that is read under terms: its keys, and what a message is verified under by it.
-use Rattle.std.specs.Prelude.{ℕ, true, false, List, length, take, map, Option, Some, None, Result, Ok, Err, if◌then◌else◌}
+use Rattle.std.specs.Prelude.{true, false, List, length, take, map, Option, Some, None, Result, Ok, Err, if◌then◌else◌}
 use Rattle.cose_map.specs.Key.Value.{KeyValue}
 use Rattle.cose_map.specs.Label.View.{label_value}
 use Rattle.cose_map.specs.Map.Read.{Read}

@@ -286,9 +286,7 @@ pub(crate) fn asked_signature<'k, const H: usize, const D: usize>(
 }
 
 /// Whether all bytes are there of a message that is authenticated elsewhere.
-fn is_ready<'k, const H: usize, const D: usize>(
-    verifier: &Verifier<'k, H, D, FedKeys<'k>>,
-) -> bool
+fn is_ready<'k, const H: usize, const D: usize>(verifier: &Verifier<'k, H, D, FedKeys<'k>>) -> bool
     ensures { result ≡ is_ready (Some verifier.now) }
 {
     verifier.is_complete() && verifier.is_elsewhere()

@@ -151,9 +151,7 @@ pub(crate) fn context<'t>(
 }
 
 /// What the messages that a block is fed are verified under, or why none is. A block keeps no labels: none may be stated.
-pub(crate) fn fed_context<'t>(
-    terms: &CoseTerms<'t>,
-) -> Result<Context<'t, FedKeys<'t>>, CoseStatus>
+pub(crate) fn fed_context<'t>(terms: &CoseTerms<'t>) -> Result<Context<'t, FedKeys<'t>>, CoseStatus>
     ensures setting { settings_fed result ≡ setting_fed terms.entry.now }
     ensures external { IfOk result (λ context. length context.aad.now ≤ 65535) }
 {

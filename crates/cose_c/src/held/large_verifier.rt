@@ -19,9 +19,7 @@ use std::ptr;
 #[derive(Drop)]
 pub struct HeldLargeVerifier {
     pub(crate) message: u64,
-    pub(crate) content: Option<
-        Verifier<'static, LARGE_HEADER, LARGE_NESTING, FedKeys<'static>>,
-    >,
+    pub(crate) content: Option<Verifier<'static, LARGE_HEADER, LARGE_NESTING, FedKeys<'static>>>,
 }
 
 /// The handle of a verifier: where its block is.

@@ -1,4 +1,4 @@
-use Rattle.std.proofs.Common.{◌≡◌, Ok, Err, Result, length, sym, ap, subst, ◌∙◌}
+use Rattle.std.proofs.Common.{Ok, Result, length, sym, ap, subst, ◌∙◌}
 use Rattle.cose_cwt.specs.declared.requirements.Unmet.{Unmet}
 use Rattle.cose_cwt.specs.Claims.View.{claims_value}
 use Rattle.cose_c.specs.declared.cose_claims.CoseClaims.{CoseClaims}

@@ -1,8 +1,6 @@
-use Rattle.std.proofs.Common.{◌≡◌, Ok, sym, ap, ◌∙◌}
+use Rattle.std.proofs.Common.{sym, ap, ◌∙◌}
 use Rattle.cose_head.specs.ItemRef.{placed}
-use Rattle.cose_map.specs.Map.Read.{check_map}
 use Rattle.cose_map.specs.Map.View.{pairs_left, seen_by}
-use Rattle.cose_c.specs.CoseClaims.{any_value}
 use Rattle.cose_c.proofs.Members.{none_lies}
 use Rattle.cose_c.proofs.claims.coordinates_in.Goals as goal
 

@@ -1,7 +1,6 @@
 use Rattle.std.proofs.Common.{◌≡◌, ℕ, Bool, true, false, sym, ap, ◌∙◌}
 use Rattle.std.specs.Prelude.{◌&&◌, ◌==◌}
 use Rattle.cose_head.specs.Algorithm.{auth_length_of}
-use Rattle.cose_msg.specs.Answer.{Chosen}
 use Rattle.cose_msg.specs.Elsewhere.{key_asked}
 use Rattle.cose_c.specs.Elsewhere.{makes_macs_of}
 use Rattle.cose_c.proofs.Asked.{asked_is_found}

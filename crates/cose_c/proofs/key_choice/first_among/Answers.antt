@@ -1,4 +1,4 @@
-use Rattle.std.proofs.Common.{◌≡◌, sym, ap, ◌∙◌}
+use Rattle.std.proofs.Common.{sym, ap, ◌∙◌}
 use Rattle.cose_head.specs.ItemRef.{placed}
 use Rattle.cose_head.specs.Items.{items_left}
 use Rattle.cose_map.specs.Choice.View.{question}

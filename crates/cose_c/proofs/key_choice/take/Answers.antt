@@ -1,5 +1,5 @@
-use Rattle.std.proofs.Common.{◌≡◌, [], ap, sym, ◌∙◌}
-use Rattle.cose_msg.specs.Reading.{Findings, Reading}
+use Rattle.std.proofs.Common.{[], ap, sym, ◌∙◌}
+use Rattle.cose_msg.specs.Reading.{Reading}
 use Rattle.cose_msg.specs.Shown.{Shown}
 use Rattle.cose_msg.specs.Status.{status_of_reading}
 use Rattle.cose_msg.specs.Task.{rules_of, to_inspect}

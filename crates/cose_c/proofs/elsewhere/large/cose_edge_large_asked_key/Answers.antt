@@ -1,4 +1,4 @@
-use Rattle.std.proofs.Common.{◌≡◌, ℕ, Bool, true, false, refl, ap, if◌then◌else◌}
+use Rattle.std.proofs.Common.{◌≡◌, Bool, true, false, refl, ap, if◌then◌else◌}
 use Rattle.cose_c.specs.Elsewhere.{is_asked}
 use Rattle.cose_c.proofs.elsewhere.large.cose_edge_large_asked_key.Goals as goal
 

@@ -1,4 +1,4 @@
-use Rattle.std.proofs.Common.{◌≡◌, sym, ◌∙◌}
+use Rattle.std.proofs.Common.{sym, ◌∙◌}
 use Rattle.cose_map.specs.KeySet.{keys_of}
 use Rattle.cose_c.specs.Permitted.{permitted_in}
 use Rattle.cose_c.specs.PermittedView.{permission_value}

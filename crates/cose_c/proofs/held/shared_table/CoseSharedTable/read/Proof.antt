@@ -1,6 +1,6 @@
 -- `read` meets its contract: a walk of its MIR by hand. That the value is lent for good can be had twice: once for the result, and once
 -- for the handle.
-use Rattle.cose_c.proofs.Imports.{◌≡◌, ℕ, List, [], ◌∷◌, refl, sym, ap, ◌∙◌, proved, after, full_share, Fml, ftrue, flft, id⊢, tables, Ptr, in_a_block, cell_at, MutRef, mut_Tells, mut_vals, plain, type_at, nothing, opens, closes, peeks, shows, hide, unhide, shr_dup, Goes-ref, Stays, ends_at, says, stay_ref, walk_of, named, Val, vptr, alloc_all, env, free_all, get, look_at, pass_all, sets, sets_last, through, !, at_ret, done, feq_i, fjoin, fjoin3, frame, fsplit, fsplit3, join, keep, move, qed, rewrite, split, suffices, ◌$◌, ◌∵◌, ◌⊛◌, ‵, look_in, sub, whole, addr, blocks, enter, exec, first, fld, load, of_opd, returns, stop}
+use Rattle.cose_c.proofs.Imports.{List, [], ◌∷◌, refl, sym, ap, ◌∙◌, proved, after, full_share, ftrue, flft, id⊢, tables, Ptr, in_a_block, cell_at, MutRef, mut_Tells, mut_vals, plain, nothing, opens, closes, peeks, shows, hide, unhide, shr_dup, Goes-ref, Stays, ends_at, says, stay_ref, walk_of, named, Val, vptr, alloc_all, env, free_all, get, look_at, pass_all, sets, sets_last, through, !, at_ret, done, feq_i, fjoin, fjoin3, frame, fsplit, fsplit3, join, keep, move, qed, rewrite, split, suffices, ◌$◌, ◌∵◌, ◌⊛◌, ‵, look_in, sub, whole, addr, blocks, enter, exec, first, fld, load, of_opd, returns, stop}
 use Rattle.cose_c.specs.HeldShared.{lent_table}
 use Rattle.cose_c.specs.contracts.held.table.HeldTable.{the_row as R}
 use Rattle.cose_c.proofs.held.table.HeldTable.TheLaws.{the_row_laws}
