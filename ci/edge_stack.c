@@ -340,7 +340,7 @@ static void large_numbers(void)
 }
 static void table_begin(void)
 {
-    cose_table_begin(block);
+    cose_table_begin(table_block);
 }
 static void table_read(void)
 {

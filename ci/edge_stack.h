@@ -14,12 +14,12 @@ struct written {
 
 static struct written one_key, keys, okp_key, message, deep_message, detached, token, deep_claims, payload;
 static struct written signed_message, signed_detached, device_message, device_detached;
-static _Alignas(COSE_BLOCK_ALIGN) uint8_t block[COSE_TABLE_BLOCK], large_block[COSE_LARGE_VERIFIER_BLOCK];
-static _Alignas(COSE_BLOCK_ALIGN) uint8_t device_block[COSE_DEVICE_VERIFIER_BLOCK];
+static _Alignas(COSE_BLOCK_ALIGN) uint8_t block[COSE_VERIFIER_BLOCK], large_block[COSE_LARGE_VERIFIER_BLOCK];
+static _Alignas(COSE_BLOCK_ALIGN) uint8_t device_block[COSE_DEVICE_VERIFIER_BLOCK], table_block[COSE_TABLE_BLOCK];
 static struct cose_verifier verifier = {block};
 static struct cose_large_verifier large = {large_block};
 static struct cose_device_verifier device = {device_block};
-static struct cose_table table = {block};
+static struct cose_table table = {table_block};
 static struct cose_maker maker = {block};
 static struct cose_signer signer = {block};
 static struct cose_message_verdict verdict;
