@@ -182,7 +182,7 @@ PYTHON = losses_of(
 )
 
 MADE = "constructor(cose,"
-FED_DETACHED = '"open_detached", true)(this.handle, ...given,'
+FED_DETACHED = "`${name}_detached`, true)(this.handle, ...given,"
 FED_PAYLOAD = '"feed_payload", true)(this.handle, ...scope.put(piece)))'
 PIECE = "cose_edge_make_piece(this.handle, ...scope.put(piece)))"
 IS_GOOD = "if (await isGoodSignature(input, sigStructure(protectedOf(message), aad, content))) return content;"
@@ -269,6 +269,7 @@ JAVASCRIPT = losses_of(
             ("stated, TermsTable: aad of signatures", "this.aad = new Uint8Array(terms.aad ?? []);", "this.aad = new Uint8Array();"),
             ("stated, TermsTable: terms", "(kept), keys, terms)", "(kept), keys, {})"),
             ("stated, TermsTable: large", "if (terms.large) throw", "if (false) throw"),
+            ("TermsTable: read again", "if (this.keySet) throw", "if (false) throw"),
             ("stated, TermsTable.admit: requirements", "GIVEN.requirements(this.cose, scope, requirements)", "GIVEN.requirements(this.cose, scope, { now: requirements.now })"),
         ],
         "cose_blocks.js": [
@@ -276,10 +277,15 @@ JAVASCRIPT = losses_of(
             ("stated, parameter of a verifier: large", "this.prefix ? 65_535 : 1_024", "1_024"),
             ("stated, keyOf of a verifier: terms", FED_KEY_OF, FED_KEY_OF.replace("terms)", "{ wanted: terms.wanted })")),
             ("stated, keyOf of a verifier: wanted", FED_KEY_OF, FED_KEY_OF.replace("terms)", "{ ...terms, wanted: 0 })")),
-            ("Verifier: aad", "...this.keep(keys), ...this.keep(aad)", "...this.keep(keys), ...this.keep(FORMS.NOTHING)"),
-            ("Verifier: wanted", '"open", true)(this.handle, ...given, wanted,', '"open", true)(this.handle, ...given, 0,'),
+            ("Verifier: aad", "[...under, ...this.keep(aad)]", "[...under, ...this.keep(FORMS.NOTHING)]"),
+            ("Verifier: wanted", "(name, true)(this.handle, ...given, wanted,", "(name, true)(this.handle, ...given, 0,"),
             ("Verifier, detached: wanted", f"{FED_DETACHED} wanted,", f"{FED_DETACHED} 0,"),
             ("Verifier: payloadLength", "wanted, BigInt(payloadLength),", "wanted, 2n,"),
+            ("Verifier: a table of another module", "if (table && table.cose !== this.cose)", "if (false)"),
+            ("Verifier: a table instead of terms", "if (keys instanceof Table) throw", "if (false) throw"),
+            ("Verifier: its table is closed", "for (const verifier of this.verifiers) verifier.forget();", ""),
+            ("Verifier: it is under a table", "table?.verifiers.add(this);", ""),
+            ("Verifier: it is under a table no more", "this.table?.verifiers.delete(this);", ""),
             ("Verifier: large", f"{MADE} {{ large = false }} = {{}}) {{\n        super", f"{MADE.rstrip(',')}) {{\n        const large = false;\n        super"),
             ("Verifier: a promise of a signature", "(this.handle, signatureIsGood === true ? 1 : 0", "(this.handle, signatureIsGood ? 1 : 0"),
             ("Verifier: the input of a signature", "if (signatureIsGood === true && input !== this.signInput())", "if (false)"),

@@ -213,7 +213,8 @@ PLACES = {
             of_call,
             "bindings/js/[ct]*.js",
             "item_at next_audience verdict_for version maker_size maker_align signer_size signer_align parameter_named table_size "
-            "table_align verifier_size verifier_align table_verify table_verify_cwt verify_detached open_elsewhere_detached",
+            "table_align verifier_size verifier_align table_verify table_verify_cwt verify_detached open_detached open_table_detached "
+            "open_elsewhere_detached",
         ),
     ],
 }

@@ -7,7 +7,7 @@
 /** What the scripts have that a page reads before this one. */
 const ROOMS = typeof module === "object" ? module.require("./rooms.js").Rooms : Rooms;
 const STATED = typeof module === "object" ? module.require("./terms.js").Stated : Stated;
-const BLOCKS = typeof module === "object" ? module.require("./cose_blocks.js") : { Block, KeyTable, Verifier, Maker };
+const BLOCKS = typeof module === "object" ? module.require("./cose_blocks.js") : { Block, Table, KeyTable, Verifier, Maker };
 const STRUCTS =
     typeof module === "object"
         ? module.require("./cose_structs.js")

@@ -48,25 +48,47 @@ class Block {
         for (const [at, length] of this.kept.splice(0)) this.cose.rooms.give(at, length);
     }
 
+    /** Overwrites the block: what is derived from keys is as secret as they are. */
+    wipe() {
+        this.cose.exports.cose_edge_wipe_bytes(this.at, BigInt(this.size));
+    }
+
     close() {
         if (!this.isOpen) return;
         this.isOpen = false;
         this.release();
-        // what is derived from keys is as secret as they are
-        this.cose.exports.cose_edge_wipe_bytes(this.at, BigInt(this.size));
+        this.wipe();
         this.cose.rooms.give(this.struct, 8);
         this.cose.rooms.give(this.at, this.size);
     }
 }
 
+/** Keys that are read once, under which verifiers are opened. Once it is closed, these are as ones that were never opened. */
+class Table extends Block {
+    /** @param {Cose} cose */
+    constructor(cose) {
+        super(cose, "table", "cose_table_begin");
+        /**
+         * The verifiers whose blocks lead to this one.
+         * @type {Set<Verifier>}
+         */
+        this.verifiers = new Set();
+    }
+
+    close() {
+        for (const verifier of this.verifiers) verifier.forget();
+        super.close();
+    }
+}
+
 /** A table of at most 64 keys, each of which is read once. */
-class KeyTable extends Block {
+class KeyTable extends Table {
     /**
      * @param {Cose} cose
      * @param {Uint8Array} keys
      */
     constructor(cose, keys) {
-        super(cose, "table", "cose_table_begin");
+        super(cose);
         this.keys = keys;
         const given = this.keep(keys);
         /** The status, and the reason and place of a refusal; or the number of usable keys. */
@@ -93,6 +115,11 @@ class Verifier extends Block {
          * @type {SignInput | undefined}
          */
         this.asked = undefined;
+        /**
+         * The table that it is open under.
+         * @type {Table | undefined}
+         */
+        this.table = undefined;
     }
 
     /**
@@ -105,21 +132,27 @@ class Verifier extends Block {
     }
 
     /**
-     * The keys and the external data of the next messages, and of detached payloads the number of bytes.
-     * @param {Uint8Array} keys
+     * The keys and the external data of the next messages, and of detached payloads the number of bytes. Of a `TermsTable` the keys
+     * alone are taken: what its terms state besides doesn't count. A table that isn't read is CLOSED, and so is a verifier whose table
+     * was closed, until it is opened again.
+     * @param {Uint8Array | Table} keys
      * @param {Options & {payloadLength?: number | bigint}} options
      */
     open(keys, { aad = FORMS.NOTHING, wanted = FORMS.WANTED.TAGGED, payloadLength } = {}) {
+        const table = keys instanceof Table ? keys : undefined;
+        if (table && table.cose !== this.cose) throw new Error("the table is of another module");
         this.asked = undefined;
-        const old = this.kept.splice(0);
-        const given = [...this.keep(keys), ...this.keep(aad)];
+        const old = this.kept.length;
+        const under = keys instanceof Table ? [keys.handle] : this.keep(keys);
+        const given = [...under, ...this.keep(aad)];
+        const name = table ? "open_table" : "open";
         const status = this.cose.scoped((scope) => {
             const at = scope.room(FORMS.LAYOUTS.cose_status.size);
-            if (payloadLength === undefined) this.call("open", true)(this.handle, ...given, wanted, at);
-            else this.call("open_detached", true)(this.handle, ...given, wanted, BigInt(payloadLength), at);
+            if (payloadLength === undefined) this.call(name, true)(this.handle, ...given, wanted, at);
+            else this.call(`${name}_detached`, true)(this.handle, ...given, wanted, BigInt(payloadLength), at);
             return this.cose.read(at, "cose_status");
         });
-        for (const [at, length] of old) this.cose.rooms.give(at, length);
+        this.opened(old, table);
         return status;
     }
 
@@ -130,7 +163,40 @@ class Verifier extends Block {
      * @param {Terms & {payloadLength?: number | bigint}} terms
      */
     openUnder(keys, terms = {}) {
+        if (keys instanceof Table) throw new Error("a verifier is opened under terms with the bytes of keys");
         return UNDER.open(this, keys, terms);
+    }
+
+    /**
+     * It was opened: the block leads to no bytes that were kept before.
+     * @param {number} old in how many rooms they are
+     * @param {Table} [table] which it leads to now
+     */
+    opened(old, table) {
+        for (const [at, length] of this.kept.splice(0, old)) this.cose.rooms.give(at, length);
+        this.leave();
+        table?.verifiers.add(this);
+        this.table = table;
+    }
+
+    /** The block leads to no table. */
+    leave() {
+        this.table?.verifiers.delete(this);
+        this.table = undefined;
+    }
+
+    /** Overwrites the block, and begins it again: it is as one that was never opened. */
+    forget() {
+        this.asked = undefined;
+        this.wipe();
+        this.call("begin")(this.at);
+        this.leave();
+        this.release();
+    }
+
+    close() {
+        this.leave();
+        super.close();
     }
 
     /**
@@ -317,4 +383,4 @@ class Maker extends Block {
     }
 }
 
-if (typeof module === "object") Object.assign(module.exports, { Block, KeyTable, Verifier, Maker });
+if (typeof module === "object") Object.assign(module.exports, { Block, Table, KeyTable, Verifier, Maker });

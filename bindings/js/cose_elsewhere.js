@@ -1,7 +1,7 @@
 // Messages that the caller authenticates, since it has the hash or the key.
 "use strict";
 
-const CORE = typeof module === "object" ? module.require("./cose.js") : { Verifier, LAYOUTS };
+const CORE = typeof module === "object" ? module.require("./cose.js") : { Table, Verifier, LAYOUTS };
 
 /**
  * The key that was chosen for a message: its material is `k`, or `crv`, `x` and `y`, or `ySign` (1 even, 2 odd).
@@ -29,11 +29,12 @@ class Elsewhere extends CORE.Verifier {
     }
 
     /**
-     * As `Verifier.open`.
+     * As `Verifier.open`, but it takes no table.
      * @param {Uint8Array} keys
      * @param {Options & {payloadLength?: number | bigint}} options
      */
     open(keys, options = {}) {
+        if (keys instanceof CORE.Table) throw new Error("a table has no call for what the caller authenticates");
         this.aad = options.aad ?? new Uint8Array();
         return super.open(keys, options);
     }

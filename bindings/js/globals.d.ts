@@ -1,7 +1,13 @@
 // What a script finds: in Node `module`, and in the page the bytes of cose_wasm.js.
 interface ModulesOfScripts {
     "./cose.js": { Block: typeof Block; LAYOUTS: typeof LAYOUTS; STATUS: typeof STATUS; WANTED: typeof WANTED };
-    "./cose_blocks.js": { Block: typeof Block; KeyTable: typeof KeyTable; Verifier: typeof Verifier; Maker: typeof Maker };
+    "./cose_blocks.js": {
+        Block: typeof Block;
+        Table: typeof Table;
+        KeyTable: typeof KeyTable;
+        Verifier: typeof Verifier;
+        Maker: typeof Maker;
+    };
     "./cose_structs.js": {
         STATUS: typeof STATUS;
         WANTED: typeof WANTED;

@@ -134,7 +134,7 @@ class Stated {
     static open(verifier, keys, { payloadLength, ...terms }) {
         const cose = verifier.cose;
         verifier.asked = undefined;
-        const old = verifier.kept.splice(0);
+        const old = verifier.kept.length;
         const status = cose.scoped((scope) => {
             const at = scope.room(cose.layout("cose_status").size);
             // the block leads to the keys and to the external data until it is opened again
@@ -144,7 +144,7 @@ class Stated {
             else verifier.call("open_under_detached", true)(verifier.handle, given, BigInt(payloadLength), at);
             return cose.read(at, "cose_status");
         });
-        for (const [at, length] of old) cose.rooms.give(at, length);
+        verifier.opened(old);
         return status;
     }
 

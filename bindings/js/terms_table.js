@@ -1,18 +1,18 @@
 // Keys that terms permit, which are read once: a table of them, and what its messages are verified under.
 "use strict";
 
-const TABLES = typeof module === "object" ? module.require("./cose.js") : { Block, LAYOUTS };
+const TABLES = typeof module === "object" ? module.require("./cose.js") : { Table, LAYOUTS };
 const GIVEN = typeof module === "object" ? module.require("./terms.js").Stated : Stated;
 
 /** The keys that terms permit, at most 64, read once, and what the terms state besides. */
-class TermsTable extends TABLES.Block {
+class TermsTable extends TABLES.Table {
     /**
      * @param {Cose} cose
      * @param {Terms & {keys: Uint8Array}} options a COSE_Key or a COSE_KeySet, and terms that aren't `large`
      */
     constructor(cose, { keys, ...terms }) {
         if (terms.large) throw new RangeError("a table reads no large headers");
-        super(cose, "table", "cose_table_begin");
+        super(cose);
         /** The external data of the table's messages. */
         this.aad = new Uint8Array(terms.aad ?? []);
         try {
@@ -29,6 +29,7 @@ class TermsTable extends TABLES.Block {
      * @param {Terms} terms
      */
     read(keys, terms) {
+        if (this.keySet) throw new Error("a table is read once");
         return this.cose.scoped((scope) => {
             const at = scope.room(TABLES.LAYOUTS.cose_key_set.size);
             // the block leads to the keys and to the external data until it is closed

@@ -136,10 +136,13 @@ function runMessage(group, test) {
     const [keys, message] = [octets(group.keys), octets(test.message)];
     for (const large of sizes(group, test.result.reason)) {
         const settings = options(group, large);
-        const table = large ? undefined : new KeyTable(cose, keys);
-        for (const held of table ? [keys, table] : [keys]) runWhole(held, message, test, settings);
-        table?.close();
-        for (const size of CUTS) runPieces(keys, message, test, settings, size);
+        const table = new KeyTable(cose, keys);
+        for (const held of [keys, table]) {
+            // the calls over memory that a table has are of the small size
+            if (held === keys || !large) runWhole(held, message, test, settings);
+            for (const size of CUTS) runPieces(held, message, test, settings, size);
+        }
+        table.close();
     }
 }
 
@@ -171,10 +174,14 @@ function runDetached(group, test) {
     const [message, payload] = [octets(test.message), octets(test.payload)];
     for (const large of sizes(group, result.reason)) {
         const settings = options(group, large);
-        for (const size of CUTS) runDetachedPieces(keys, test, length, settings, size);
-        for (let end = 0; end < (result.verdict === "authentic" ? result.taken : 0); end += 1) {
-            runDetachedPieces(keys, test, length, settings, 64, end);
+        const table = new KeyTable(cose, keys);
+        for (const held of [keys, table]) {
+            for (const size of CUTS) runDetachedPieces(held, test, length, settings, size);
+            for (let end = 0; end < (result.verdict === "authentic" ? result.taken : 0); end += 1) {
+                runDetachedPieces(held, test, length, settings, 64, end);
+            }
         }
+        table.close();
         if (payload.length < length) continue;
         const content = payload.subarray(0, Number(length));
         const seen = inOneCall(keys, message.subarray(0, result.taken), test, { ...settings, payload: content });
@@ -335,7 +342,8 @@ function runTerms(group, test) {
         equal(required(cose.admit(keys, token, stated)), wanted, "admit");
         equal(claimsIn(cose.authenticate(keys, token, stated), token, stated), wanted, "authenticate and admitClaims");
         if (test.result.reason === "Trailing" || stated.understood?.length) continue;
-        for (const size of [1, 7, 64]) equal(inPiecesUnder(keys, token, stated, size), wanted, `openUnder, pieces of ${size}`);
+        const openUnder = (verifier) => verifier.openUnder(keys, stated);
+        for (const size of [1, 7, 64]) equal(inPieces(openUnder, token, stated, size), wanted, `openUnder, pieces of ${size}`);
         runTermsKey(keys, token, stated, test.result);
     }
     runTermsInTable(keys, token, termsOf(group, false), wanted);
@@ -373,6 +381,9 @@ function claimsIn(verdict, token, stated) {
 /** How many rows of each file went through a table too. */
 export const throughTable = { terms: 0, checklist: 0 };
 
+/** How many rows were fed to verifiers under a table. */
+export const fedUnderTable = { terms: 0 };
+
 /** A token under a table that is read once: no call changes it. */
 function runTermsInTable(keys, token, stated, wanted) {
     const table = new TermsTable(cose, { keys, ...stated });
@@ -382,16 +393,21 @@ function runTermsInTable(keys, token, stated, wanted) {
             equal(claimsIn(table.authenticate(token), token, stated), wanted, "TermsTable.authenticate");
         }
         throughTable.terms += 1;
+        // a verifier takes the keys of a table, and not what the terms state of messages
+        if (wanted[1] === "Trailing" || stated.understood?.length || stated.payloadLimit !== undefined) return;
+        const open = (verifier) => verifier.open(table, { aad: stated.aad, wanted: stated.wanted });
+        for (const { large } of SIZES) equal(inPieces(open, token, { ...stated, large }, 7), wanted, `open, TermsTable, large: ${large}`);
+        fedUnderTable.terms += 1;
     } finally {
         table.close();
     }
 }
 
-/** The answer for a token that is fed under terms, and for its claims. */
-function inPiecesUnder(keys, token, stated, size) {
+/** The answer for a token that is fed to a verifier once it is opened, and for its claims. */
+function inPieces(open, token, stated, size) {
     const verifier = new Verifier(cose, { large: stated.large });
     try {
-        const opened = verifier.openUnder(keys, stated);
+        const opened = open(verifier);
         if (opened.status !== STATUS.MORE) return refused(opened);
         const payload = [];
         for (const piece of cut(token, size)) payload.push(...verifier.feed(piece).payload);

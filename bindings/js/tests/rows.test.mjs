@@ -1,7 +1,7 @@
 // The rows of rows/, a test a file.
 import assert from "node:assert/strict";
 import { test } from "node:test";
-import { askedForKey, leftOutOf, lineOf, runFile, SCHEMAS, throughTable } from "./rows.mjs";
+import { askedForKey, fedUnderTable, leftOutOf, lineOf, runFile, SCHEMAS, throughTable } from "./rows.mjs";
 
 /** How many rows of each file are left out, so that no more are. */
 const LEFT_OUT = {
@@ -48,4 +48,13 @@ test("each other row of terms is asked for its key, in both sizes", async () => 
     askedForKey.terms = 0;
     const { rows, differ } = await runFile("terms");
     assert.deepEqual([differ, rows - askedForKey.terms / 2], [[], WITHOUT_KEY]);
+});
+
+/** Rows with labels that are understood, with a limit of the payload, or whose message is followed by a byte. */
+const OF_ONE_CALL = 5;
+
+test("each other row of terms is fed to a verifier under a table, in both sizes", async () => {
+    fedUnderTable.terms = 0;
+    const { rows, differ } = await runFile("terms");
+    assert.deepEqual([differ, rows - fedUnderTable.terms], [[], OF_ONE_CALL]);
 });
