@@ -58,6 +58,8 @@ OF_MESSAGE = "return _message(terms, data, content, ecdsa, large)"
 # the same of terms_table.py, which has them in a class
 IN_CLASS = {"terms": TERMS_LINES.replace("\n    ", "\n        ").replace("        keys", "            keys", 1)}
 IN_CLASS["required"] = REQUIRED_LINE.replace("\n    )", "\n        )").replace("        now", "            now", 1)
+UNDER_TABLE = "(table, *rest), payload_length)"
+PREPARED = "ecdsa, large)\n        self._open("
 TABLE_MESSAGE = "return message_of(found, None, ecdsa,"
 TABLE_SIGNED = "self.authenticate(data, ecdsa=ecdsa).payload"
 TABLE_RECEIVED = "(data, self._terms.struct.kind, False)"
@@ -161,6 +163,11 @@ PYTHON = losses_of(
             ("Verifier: wanted", "self._open(wanted_of(wanted), payload_length)", "self._open(0, payload_length)"),
             ("Verifier: payload_length", "self._open(wanted_of(wanted), payload_length)", "self._open(wanted_of(wanted), None)"),
             ("Verifier: the stated payload_length", "*given, length, byref(status)", "*given, 2, byref(status)"),
+            ("Verifier under a table: the table", "if self._table is None:", "if True:"),
+            ("Verifier under a table: aad", UNDER_TABLE, UNDER_TABLE.replace("*rest", 'b"", 0, wanted')),
+            ("Verifier under a table: wanted", UNDER_TABLE, UNDER_TABLE.replace("*rest", "*rest[:2], 0")),
+            ("Verifier under a table: payload_length", UNDER_TABLE, UNDER_TABLE.replace("payload_length", "None")),
+            ("Verifier under a table: large", PREPARED, PREPARED.replace("large", "large and not isinstance(keys, KeyTable)")),
             ("stated, protected of a verifier: the bucket", "return self._parameter(label, 1)", "return self._parameter(label, 0)"),
             ("stated, unprotected of a verifier: the bucket", "return self._parameter(label, 0)", "return self._parameter(label, 1)"),
             ("stated, parameters of a verifier: large", "65_535 if self._is_large else 1_024", "1_024"),
