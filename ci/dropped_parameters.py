@@ -58,6 +58,8 @@ OF_MESSAGE = "return _message(terms, data, content, ecdsa, large)"
 # the same of terms_table.py, which has them in a class
 IN_CLASS = {"terms": TERMS_LINES.replace("\n    ", "\n        ").replace("        keys", "            keys", 1)}
 IN_CLASS["required"] = REQUIRED_LINE.replace("\n    )", "\n        )").replace("        now", "            now", 1)
+UNDER_TABLE = "(table, *rest), payload_length)"
+PREPARED = "ecdsa, large)\n        self._open("
 TABLE_MESSAGE = "return message_of(found, None, ecdsa,"
 TABLE_SIGNED = "self.authenticate(data, ecdsa=ecdsa).payload"
 TABLE_RECEIVED = "(data, self._terms.struct.kind, False)"
@@ -161,6 +163,11 @@ PYTHON = losses_of(
             ("Verifier: wanted", "self._open(wanted_of(wanted), payload_length)", "self._open(0, payload_length)"),
             ("Verifier: payload_length", "self._open(wanted_of(wanted), payload_length)", "self._open(wanted_of(wanted), None)"),
             ("Verifier: the stated payload_length", "*given, length, byref(status)", "*given, 2, byref(status)"),
+            ("Verifier under a table: the table", "if self._table is None:", "if True:"),
+            ("Verifier under a table: aad", UNDER_TABLE, UNDER_TABLE.replace("*rest", 'b"", 0, wanted')),
+            ("Verifier under a table: wanted", UNDER_TABLE, UNDER_TABLE.replace("*rest", "*rest[:2], 0")),
+            ("Verifier under a table: payload_length", UNDER_TABLE, UNDER_TABLE.replace("payload_length", "None")),
+            ("Verifier under a table: large", PREPARED, PREPARED.replace("large", "large and not isinstance(keys, KeyTable)")),
             ("stated, protected of a verifier: the bucket", "return self._parameter(label, 1)", "return self._parameter(label, 0)"),
             ("stated, unprotected of a verifier: the bucket", "return self._parameter(label, 0)", "return self._parameter(label, 1)"),
             ("stated, parameters of a verifier: large", "65_535 if self._is_large else 1_024", "1_024"),
@@ -302,8 +309,12 @@ JAVASCRIPT = losses_of(
 
 OPEN = "(S::FUNCTIONS.open)(\n                &mut verifier.handle(),\n                keys.as_ptr(),\n                keys.len(),\n                "
 OPEN_DETACHED = OPEN.replace("open)", "open_detached)")
+OPEN_TABLE = "(S::FUNCTIONS.open_table)(\n                &mut verifier.handle(),\n                &table.handle(),\n                "
+OPEN_TABLE_DETACHED = OPEN_TABLE.replace("open_table)", "open_table_detached)")
 AAD = "options.aad.as_ptr(),\n                options.aad.len(),\n                "
 NO_AAD = "[].as_ptr(),\n                0,\n                "
+LENGTH = "options.wanted as u8,\n                payload_length,"
+NO_LENGTH = "options.wanted as u8,\n                2,"
 USED = "used.min(piece.len())"
 DETACHED_OPTIONS = "Small::verify_detached(keys, options, message, payload)"
 RUST = losses_of(
@@ -345,7 +356,17 @@ RUST = losses_of(
             ("open: wanted", f"{OPEN}{AAD}options.wanted as u8", f"{OPEN}{AAD}0"),
             ("open_detached: aad", OPEN_DETACHED + AAD, OPEN_DETACHED + NO_AAD),
             ("open_detached: wanted", f"{OPEN_DETACHED}{AAD}options.wanted as u8", f"{OPEN_DETACHED}{AAD}0"),
-            ("open_detached: payload_length", "wanted as u8,\n                payload_length,", "wanted as u8,\n                2,"),
+            ("open_detached: payload_length", f"{OPEN_DETACHED}{AAD}{LENGTH}", f"{OPEN_DETACHED}{AAD}{NO_LENGTH}"),
+            ("under_table: options", "open_under_table(block, table, options)", "open_under_table(block, table, &Options::default())"),
+            ("open_under_table: aad", OPEN_TABLE + AAD, OPEN_TABLE + NO_AAD),
+            ("open_under_table: wanted", f"{OPEN_TABLE}{AAD}options.wanted as u8", f"{OPEN_TABLE}{AAD}0"),
+            ("open_under_table_detached: aad", OPEN_TABLE_DETACHED + AAD, OPEN_TABLE_DETACHED + NO_AAD),
+            ("open_under_table_detached: wanted", f"{OPEN_TABLE_DETACHED}{AAD}options.wanted as u8", f"{OPEN_TABLE_DETACHED}{AAD}0"),
+            (
+                "open_under_table_detached: payload_length",
+                f"{OPEN_TABLE_DETACHED}{AAD}{LENGTH}",
+                f"{OPEN_TABLE_DETACHED}{AAD}{NO_LENGTH}",
+            ),
             ("open_under_detached: payload_length", "&raw,\n                payload_length,", "&raw,\n                2,"),
             ("feed: used, 1 for 0", "used: part(piece, 0, fed.used)?.len(),", "used: part(piece, 0, fed.used)?.len().max(1),"),
             ("feed_payload: used, 1 for 0", f"{USED})\n    }}\n\n    /// The status.", f"{USED}.max(1))\n    }}\n\n    /// The status."),

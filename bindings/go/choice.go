@@ -55,6 +55,10 @@ func (v *Verifier) KeyOf(keys []byte, terms *Terms) (place uint64, item []byte, 
 		return 0, nil, err
 	}
 	defer v.block.mutex.Unlock()
+	if err := v.shareTable(); err != nil {
+		return 0, nil, err
+	}
+	defer v.leaveTable()
 	return keyAt(keys, C.sized_fed_key_of(v.large, v.block.at, given, bytesOf(keys)))
 }
 

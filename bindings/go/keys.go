@@ -8,7 +8,7 @@ import "C"
 import "runtime"
 
 // KeyTable is a COSE_Key or a COSE_KeySet (RFC 9052 section 7) that is read once, for many messages. It has up to 64 usable keys.
-// Any number of goroutines may use it at once.
+// Any number of goroutines may use it at once, and any number of verifiers may be under it (NewVerifierUnderTable).
 type KeyTable struct {
 	block  block
 	usable int
@@ -48,7 +48,7 @@ func (t *KeyTable) Len() int {
 }
 
 // Close waits for the calls that have begun, and gives the memory back, which the garbage collector does too. Other calls return
-// ErrClosed then.
+// ErrClosed then, those of verifiers under the table too.
 func (t *KeyTable) Close() error {
 	if err := t.block.lock(); err != nil {
 		return err

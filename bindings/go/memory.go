@@ -40,7 +40,7 @@ func release(memory []byte) {
 }
 
 // A block has what the library keeps between calls, and copies of the bytes that this leads to. One call at a time uses it,
-// but for those that verify under a table, which only read it.
+// but for those that verify under a table, which only read it, as do those of a verifier that is under one.
 type block struct {
 	mutex sync.RWMutex
 	// lent is set while code of the caller runs between calls of the library that belong together

@@ -26,6 +26,14 @@ func TestShare(t *testing.T) {
 	if err != nil {
 		t.Fatal(err)
 	}
+	ofVerifier, err := NewKeyTable(keys)
+	if err != nil {
+		t.Fatal(err)
+	}
+	v, err := NewVerifierUnderTable(ofVerifier, nil)
+	if err != nil {
+		t.Fatal(err)
+	}
 	for _, table := range []struct {
 		block  *block
 		verify func() (*Message, error)
@@ -33,6 +41,10 @@ func TestShare(t *testing.T) {
 	}{
 		{&ofKeys.block, func() (*Message, error) { return ofKeys.Verify(message, nil) }, ofKeys.Close},
 		{&ofTerms.block, func() (*Message, error) { return ofTerms.Authenticate(message) }, ofTerms.Close},
+		{&ofVerifier.block, func() (*Message, error) {
+			fed, err := v.Feed(message)
+			return &Message{Payload: fed.Payload}, err
+		}, ofVerifier.Close},
 	} {
 		if err := table.block.share(); err != nil {
 			t.Fatal(err)

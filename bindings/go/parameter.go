@@ -66,6 +66,10 @@ func (v *Verifier) parameter(read func(*C.uint8_t, C.size_t) C.struct_cose_item)
 		return nil, err
 	}
 	defer v.block.mutex.Unlock()
+	if err := v.shareTable(); err != nil {
+		return nil, err
+	}
+	defer v.leaveTable()
 	room := make([]byte, 1_024)
 	if v.options.Large {
 		room = make([]byte, 65_535)

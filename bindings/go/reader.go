@@ -2,9 +2,6 @@
 
 package cose
 
-// #include "sized.h"
-import "C"
-
 import "io"
 
 // roomLength is how many bytes are read at once.
@@ -36,7 +33,9 @@ func (v *Verifier) verifyFrom(message, detached io.Reader, payload io.Writer) (*
 	if v.room == nil {
 		v.room = make([]byte, roomLength)
 	}
-	C.sized_reset(v.large, v.block.at)
+	if err := v.reset(); err != nil {
+		return nil, err
+	}
 	fed, err := v.feed(nil)
 	for err == nil && fed.Status != Complete {
 		var isEnd bool
@@ -58,7 +57,10 @@ func (v *Verifier) verifyFrom(message, detached io.Reader, payload io.Writer) (*
 
 // readPiece feeds what one read gives, and says whether the reader has ended.
 func (v *Verifier) readPiece(message io.Reader, payload io.Writer) (isEnd bool, err error) {
-	counts := v.counts()
+	counts, err := v.counts()
+	if err != nil {
+		return false, err
+	}
 	count, failure := message.Read(v.room[:atMost(counts.Wanted)])
 	fed, err := v.feed(v.room[:count])
 	if err != nil {
@@ -77,8 +79,14 @@ func (v *Verifier) readPiece(message io.Reader, payload io.Writer) (isEnd bool, 
 
 // readPayload is the same of a detached payload.
 func (v *Verifier) readPayload(payload io.Reader) (isEnd bool, err error) {
-	count, failure := payload.Read(v.room[:atMost(v.counts().PayloadWanted)])
-	v.feedPayload(v.room[:count])
+	counts, err := v.counts()
+	if err != nil {
+		return false, err
+	}
+	count, failure := payload.Read(v.room[:atMost(counts.PayloadWanted)])
+	if _, err = v.feedPayload(v.room[:count]); err != nil {
+		return false, err
+	}
 	return ended(failure)
 }
 

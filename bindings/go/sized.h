@@ -155,6 +155,33 @@ static inline struct cose_status sized_open_detached(bool large, uint8_t *block,
     return status;
 }
 
+static inline struct cose_status sized_open_table(bool large, uint8_t *block, uint8_t *table, struct sized_bytes aad, uint32_t kind)
+{
+    struct cose_status status = {0};
+    struct cose_verifier verifier = {block};
+    struct cose_large_verifier large_verifier = {block};
+    struct cose_table under = {table};
+    if (large)
+        cose_large_open_table(&large_verifier, &under, aad.at, aad.length, (enum cose_kind_number)kind, &status);
+    else
+        cose_open_table(&verifier, &under, aad.at, aad.length, (enum cose_kind_number)kind, &status);
+    return status;
+}
+
+static inline struct cose_status sized_open_table_detached(bool large, uint8_t *block, uint8_t *table, struct sized_bytes aad,
+    uint32_t kind, uint64_t payload_length)
+{
+    struct cose_status status = {0};
+    struct cose_verifier verifier = {block};
+    struct cose_large_verifier large_verifier = {block};
+    struct cose_table under = {table};
+    if (large)
+        cose_large_open_table_detached(&large_verifier, &under, aad.at, aad.length, (enum cose_kind_number)kind, payload_length, &status);
+    else
+        cose_open_table_detached(&verifier, &under, aad.at, aad.length, (enum cose_kind_number)kind, payload_length, &status);
+    return status;
+}
+
 static inline struct cose_fed sized_feed(bool large, uint8_t *block, struct sized_bytes piece)
 {
     struct cose_fed fed = {0};

@@ -17,9 +17,8 @@ func tokenOf(subject string) []byte {
 	return mac0(joined([]byte{0xa2, 0x02}, str(3, []byte(subject)), []byte{0x04}, integer(1444064944)), nil)
 }
 
-// newKeyTable is a table of keysOf5.
-func newKeyTable(t *testing.T) *cose.KeyTable {
-	table, err := cose.NewKeyTable(keysOf5)
+func newKeyTable(t *testing.T, keys []byte) *cose.KeyTable {
+	table, err := cose.NewKeyTable(keys)
 	if err != nil {
 		t.Fatal(err)
 	}
@@ -28,7 +27,7 @@ func newKeyTable(t *testing.T) *cose.KeyTable {
 
 // TestSharedTables has goroutines over two tables, of which each is answered about its own messages and tokens, good and forged.
 func TestSharedTables(t *testing.T) {
-	ofKeys, ofTerms := newKeyTable(t), newTermsTable(t, keysOf5, nil)
+	ofKeys, ofTerms := newKeyTable(t, keysOf5), newTermsTable(t, keysOf5, nil)
 	policy := &cose.Policy{CurrentTime: until1444064944.CurrentTime}
 	messages := map[string]func([]byte) (*cose.Message, error){
 		"Verify":       func(data []byte) (*cose.Message, error) { return ofKeys.Verify(data, nil) },
@@ -75,7 +74,7 @@ func TestSharedTables(t *testing.T) {
 func TestClosedTable(t *testing.T) {
 	message := mac0(make([]byte, 10_000), nil)
 	for turn := 0; turn < 50; turn++ {
-		table := newKeyTable(t)
+		table := newKeyTable(t, keysOf5)
 		var begun, group sync.WaitGroup
 		for worker := 0; worker < 4; worker++ {
 			begun.Add(1)
@@ -109,7 +108,7 @@ func TestCollectedTable(t *testing.T) {
 			runtime.GC()
 			close(collected)
 		}()
-		if found, err := newKeyTable(t).Verify(message, nil); err != nil || len(found.Payload) != 10_000 {
+		if found, err := newKeyTable(t, keysOf5).Verify(message, nil); err != nil || len(found.Payload) != 10_000 {
 			t.Error(found, err)
 		}
 		<-collected

@@ -57,7 +57,9 @@ type Counts struct {
 // One call at a time uses it, and other goroutines wait. While it asks whether a signature is good, or reads a message, each other call
 // returns ErrInUse: the answer counts for the message that it was asked about, and for no other.
 type Verifier struct {
-	block      block
+	block block
+	// table has the keys, where they aren't the verifier's own
+	table      *KeyTable
 	options    Options
 	large      C.bool
 	isDetached bool
@@ -84,6 +86,51 @@ func NewVerifierUnder(keys []byte, terms *Terms) (*Verifier, error) {
 // NewDetachedVerifierUnder is the same of messages whose payload is detached, and has so many bytes.
 func NewDetachedVerifierUnder(keys []byte, payloadLength uint64, terms *Terms) (*Verifier, error) {
 	return newVerifierUnder(keys, terms, true, payloadLength)
+}
+
+// NewVerifierUnderTable is a verifier of messages that have their payload, under the keys of a table, which aren't read again. Any number
+// of verifiers may be under one table, in any number of goroutines. Once the table is closed, each call returns ErrClosed.
+func NewVerifierUnderTable(table *KeyTable, options *Options) (*Verifier, error) {
+	return newVerifierUnderTable(table, options, false, 0)
+}
+
+// NewDetachedVerifierUnderTable is the same of messages whose payload is detached, and has so many bytes.
+func NewDetachedVerifierUnderTable(table *KeyTable, payloadLength uint64, options *Options) (*Verifier, error) {
+	return newVerifierUnderTable(table, options, true, payloadLength)
+}
+
+func newVerifierUnderTable(table *KeyTable, options *Options, isDetached bool, payloadLength uint64) (*Verifier, error) {
+	if err := table.block.share(); err != nil {
+		return nil, err
+	}
+	defer table.block.mutex.RUnlock()
+	v, err := openVerifier(nil, options, isDetached, func(v *Verifier, _, external C.struct_sized_bytes) C.struct_cose_status {
+		wanted := C.uint32_t(v.options.Wanted)
+		if isDetached {
+			return C.sized_open_table_detached(v.large, v.block.at, table.block.at, external, wanted, C.uint64_t(payloadLength))
+		}
+		return C.sized_open_table(v.large, v.block.at, table.block.at, external, wanted)
+	})
+	if err != nil {
+		return nil, err
+	}
+	v.table = table
+	return v, nil
+}
+
+// shareTable begins a use of the table that the block leads to, where there is one, which leaveTable ends. No code of the caller runs in
+// between: it may close the table.
+func (v *Verifier) shareTable() error {
+	if v.table == nil {
+		return nil
+	}
+	return v.table.block.share()
+}
+
+func (v *Verifier) leaveTable() {
+	if v.table != nil {
+		v.table.block.mutex.RUnlock()
+	}
 }
 
 func newVerifierUnder(keys []byte, terms *Terms, isDetached bool, payloadLength uint64) (*Verifier, error) {
@@ -155,6 +202,10 @@ func (v *Verifier) Feed(piece []byte) (Fed, error) {
 }
 
 func (v *Verifier) feed(piece []byte) (Fed, error) {
+	if err := v.shareTable(); err != nil {
+		return Fed{}, err
+	}
+	defer v.leaveTable()
 	fed := C.sized_feed(v.large, v.block.at, bytesOf(piece))
 	switch fed.status.status {
 	case C.COSE_MORE, C.COSE_PAYLOAD_NEXT, C.COSE_COMPLETE:
@@ -170,11 +221,15 @@ func (v *Verifier) FeedPayload(piece []byte) (int, error) {
 		return 0, err
 	}
 	defer v.block.mutex.Unlock()
-	return v.feedPayload(piece), nil
+	return v.feedPayload(piece)
 }
 
-func (v *Verifier) feedPayload(piece []byte) int {
-	return int(C.sized_feed_payload(v.large, v.block.at, bytesOf(piece)))
+func (v *Verifier) feedPayload(piece []byte) (int, error) {
+	if err := v.shareTable(); err != nil {
+		return 0, err
+	}
+	defer v.leaveTable()
+	return int(C.sized_feed_payload(v.large, v.block.at, bytesOf(piece))), nil
 }
 
 // End says that no byte follows. It returns a *Refused where the message isn't whole.
@@ -187,6 +242,10 @@ func (v *Verifier) End() error {
 }
 
 func (v *Verifier) end() error {
+	if err := v.shareTable(); err != nil {
+		return err
+	}
+	defer v.leaveTable()
 	status := C.sized_end(v.large, v.block.at)
 	if status.status != C.COSE_COMPLETE {
 		return errorOf(status.status, status.reason, status.place)
@@ -208,14 +267,29 @@ func (v *Verifier) verdict() (*Verdict, error) {
 	if err := v.end(); err != nil {
 		return nil, err
 	}
-	asked, good := C.sized_sign_input(v.large, v.block.at), false
+	asked, err := v.signInput()
+	if err != nil {
+		return nil, err
+	}
+	good := false
 	if asked.has_signature {
-		var err error
 		if good, err = v.options.isGood(&asked.input); err != nil {
 			return nil, err
 		}
 	}
+	if err = v.shareTable(); err != nil {
+		return nil, err
+	}
+	defer v.leaveTable()
 	return verdictOf(C.sized_verdict(v.large, v.block.at, C.bool(good)))
+}
+
+func (v *Verifier) signInput() (asked C.struct_sized_answer, err error) {
+	if err = v.shareTable(); err != nil {
+		return asked, err
+	}
+	defer v.leaveTable()
+	return C.sized_sign_input(v.large, v.block.at), nil
 }
 
 func verdictOf(found C.struct_cose_message_verdict) (*Verdict, error) {
@@ -231,6 +305,14 @@ func (v *Verifier) Reset() error {
 		return err
 	}
 	defer v.block.mutex.Unlock()
+	return v.reset()
+}
+
+func (v *Verifier) reset() error {
+	if err := v.shareTable(); err != nil {
+		return err
+	}
+	defer v.leaveTable()
 	C.sized_reset(v.large, v.block.at)
 	return nil
 }
@@ -241,10 +323,14 @@ func (v *Verifier) Counts() (Counts, error) {
 		return Counts{}, err
 	}
 	defer v.block.mutex.Unlock()
-	return v.counts(), nil
+	return v.counts()
 }
 
-func (v *Verifier) counts() Counts {
+func (v *Verifier) counts() (Counts, error) {
+	if err := v.shareTable(); err != nil {
+		return Counts{}, err
+	}
+	defer v.leaveTable()
 	it := C.sized_counts_of(v.large, v.block.at)
-	return Counts{uint64(it.wanted), uint64(it.payload_wanted), uint64(it.taken), uint64(it.held)}
+	return Counts{uint64(it.wanted), uint64(it.payload_wanted), uint64(it.taken), uint64(it.held)}, nil
 }

@@ -51,9 +51,10 @@ class Made:
     def verify_cwt(self, **given: Any) -> cose.Claims:
         return cose.verify_cwt(self.keys, self.data, **{"now": 0, **self.rest, **given})
 
-    def fed(self, payload: bytes = b"", **given: Any) -> cose.Verdict:
-        """By a verifier that is fed."""
-        with cose.Verifier(self.keys, **{**self.rest, **given}) as verifier:
+    def fed(self, payload: bytes = b"", *, table: bool = False, **given: Any) -> cose.Verdict:
+        """By a verifier that is fed, under a table of the keys where that is wanted."""
+        keys = cose.KeyTable(self.keys) if table else self.keys
+        with cose.Verifier(keys, **{**self.rest, **given}) as verifier:
             used = verifier.feed(self.data).used
             if payload:
                 verifier.feed_payload(payload)
@@ -75,9 +76,9 @@ class Parameter(unittest.TestCase):
             self.assertEqual(reason.name if reason else type(raised.exception).__name__, why)
 
     def calls(self, kind: cose.Kind, **made: Any) -> Tuple[Callable[..., Any], ...]:
-        """The two calls that verify a message."""
+        """The calls that verify a message, in memory and in pieces."""
         it = Made(kind, **made)
-        return it.verify, it.fed
+        return it.verify, it.fed, partial(it.fed, table=True)
 
     def test_aad(self) -> None:
         for kind in (MAC, SIGNED):
@@ -108,11 +109,11 @@ class Parameter(unittest.TestCase):
             it = Made(kind, detached=True)
             self.both(it.verify, {"payload": payload}, {}, "Detached")
             self.both(it.verify, {"payload": payload}, {"payload": b"what is sadi"}, "BadAuth")
-            fed = partial(it.fed, payload)
-            self.both(fed, {"payload_length": len(payload)}, {}, "Detached")
-            self.both(fed, {"payload_length": len(payload)}, {"payload_length": 4}, "BadAuth")
-            given = ({"payload": payload}, {"payload_length": len(payload)})
-            for call, bad in zip(self.calls(kind), given):
+            length = {"payload_length": len(payload)}
+            for fed in (partial(it.fed, payload), partial(it.fed, payload, table=True)):
+                self.both(fed, length, {}, "Detached")
+                self.both(fed, length, {"payload_length": 4}, "BadAuth")
+            for call, bad in zip(self.calls(kind), ({"payload": payload}, length, length)):
                 self.both(call, {}, bad, "Attached")
 
     def test_large(self) -> None:

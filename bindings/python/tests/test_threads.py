@@ -203,6 +203,31 @@ class Tables(unittest.TestCase):
         in_threads(4, run)
         self.assertEqual(right, [True] * 400)
 
+    def test_verifiers(self) -> None:
+        """So is each thread that feeds a verifier of its own, of which all are under one table."""
+        numbers, right = itertools.count(), []
+
+        def run() -> None:
+            number = next(numbers)
+            payload = b"%d" % number * 5_000
+            message = mac0(payload)
+            for turn in range(100):
+                found: List[Any] = []
+                with cose.Verifier(self.keys, large=(number + turn) % 2 == 1) as verifier:
+                    for data in (message, forged(message), message):
+                        fed = [verifier.feed(it).payload for it in (data[:99], data[99:-1])]
+                        try:
+                            verifier.feed(data[-1:])
+                            found.append((b"".join(fed), verifier.verdict().taken))
+                        except cose.Refused as refused:
+                            found.append(refused.reason)
+                        verifier.reset()
+                good = (payload, len(message))
+                right.append(found == [good, cose.Reason.BadAuth, good])
+
+        in_threads(4, run)
+        self.assertEqual(right, [True] * 400)
+
     def test_many(self) -> None:
         """So it is about many tokens."""
         numbers, found = itertools.count(), {}
@@ -247,6 +272,7 @@ class Tables(unittest.TestCase):
             "table_verify_cwts": lambda: cose.verify_many(self.keys, [token("s")], now=NOW),
             "table_authenticate": lambda: self.terms.authenticate(mac0(b"hi")),
             "table_admit": lambda: self.terms.admit(token("s"), now=NOW),
+            "feed": lambda: cose.Verifier(self.keys).feed(mac0(b"hi")),
         }
         for name, call in calls.items():
             both, real, found = threading.Barrier(2, timeout=20), getattr(_calls, name), []

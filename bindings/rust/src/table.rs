@@ -8,7 +8,8 @@ use crate::{raw, Block, Claims, Error, Options, Policy, Verdict};
 pub type TableBlock = Block<16_384>;
 
 /// A key set whose keys are read once, for many messages: at most 64 usable keys. Any number of threads may verify under one table at
-/// once. It borrows its memory and the bytes of the set, and has the size [`Small`](crate::Small) alone.
+/// once. It borrows its memory and the bytes of the set. Its calls have the size [`Small`](crate::Small) alone; a
+/// [`Verifier`](crate::Verifier) of either size is opened under it.
 ///
 /// ```
 /// use cose::{Block, KeyTable, Options};
@@ -53,12 +54,16 @@ impl<'k> KeyTable<'k> {
         if key_set.status != number::COMPLETE {
             return Err(Error::of(key_set.status, key_set.reason, key_set.place));
         }
-        let usable = key_set.usable;
-        Ok(KeyTable { block, usable })
+        Ok(KeyTable::of(block, key_set.usable))
+    }
+
+    /// The table of a block that has one, to which nobody writes while `'k` lasts, and of which so many keys are usable.
+    pub(crate) fn of(block: &'k TableBlock, usable: u64) -> Self {
+        KeyTable { block, usable }
     }
 
     /// A handle for one call, which only reads the block.
-    fn handle(&self) -> raw::Table {
+    pub(crate) fn handle(&self) -> raw::Table {
         raw::Table {
             at: self.block.at_to_read().cast_mut(),
         }

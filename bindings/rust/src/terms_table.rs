@@ -3,7 +3,7 @@
 use crate::block::Memory;
 use crate::error::number;
 use crate::terms::admitted;
-use crate::{raw, Claims, Error, NotAdmitted, Requirements, TableBlock, Terms, Verdict};
+use crate::{raw, Claims, Error, KeyTable, NotAdmitted, Requirements, TableBlock, Terms, Verdict};
 
 /// The keys of [`Terms`] that they permit, read once for many messages, and what the terms state besides: at most 64 keys. Any number
 /// of threads may verify under one table at once. It borrows its memory, the keys and the external data, and has the size
@@ -73,6 +73,13 @@ impl<'k> TermsTable<'k> {
     #[must_use]
     pub fn usable(&self) -> u64 {
         self.usable
+    }
+
+    /// The keys that are permitted, alone: whatever the terms state besides, as their external data or the most bytes of a payload,
+    /// doesn't count for what is verified under them. For a [`Verifier`](crate::Verifier) that is opened under a table.
+    #[must_use]
+    pub fn keys(&self) -> KeyTable<'k> {
+        KeyTable::of(self.block, self.usable)
     }
 
     /// Verifies a message under the table's terms, as [`authenticate`](crate::authenticate) does.

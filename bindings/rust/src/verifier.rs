@@ -2,7 +2,9 @@
 
 use crate::block::Memory;
 use crate::error::{number, part};
-use crate::{raw, Block, Bucket, Error, Item, Kind, Label, Options, SignInput, Size, Small, Terms};
+use crate::{
+    raw, Block, Bucket, Error, Item, KeyTable, Kind, Label, Options, SignInput, Size, Small, Terms,
+};
 
 /// Memory for a [`Verifier`].
 pub type VerifierBlock = Block<4_096>;
@@ -134,7 +136,7 @@ impl Accepted {
 /// ```
 #[derive(Debug)]
 pub struct Verifier<'k, S: Size = Small> {
-    // what is in it leads to the keys and to the externally supplied data, which stay for `'k` too
+    // what is in it leads to the keys or to the block of a table, and to the externally supplied data, which stay for `'k` too
     block: &'k mut S::Block,
 }
 
@@ -159,6 +161,19 @@ impl<'k> Verifier<'k> {
     /// As [`open_under`](Self::open_under).
     pub fn under(block: &'k mut VerifierBlock, terms: &Terms<'k>) -> Result<Self, Error> {
         Self::open_under(block, terms)
+    }
+
+    /// A verifier under the keys of a table, in the size [`Small`]: [`open_under_table`](Self::open_under_table).
+    ///
+    /// # Errors
+    ///
+    /// The externally supplied data is too long.
+    pub fn under_table(
+        block: &'k mut VerifierBlock,
+        table: &KeyTable<'k>,
+        options: &Options<'k>,
+    ) -> Result<Self, Error> {
+        Self::open_under_table(block, table, options)
     }
 
     /// A verifier of messages that have nil for their payload, which is detached and has so many bytes. Where [`feed`](Self::feed)
@@ -310,6 +325,102 @@ impl<'k, S: Size> Verifier<'k, S> {
             (S::FUNCTIONS.open_under_detached)(
                 &mut verifier.handle(),
                 &raw,
+                payload_length,
+                &mut status,
+            );
+        }
+        Status::of(&status).map(|_| verifier)
+    }
+
+    /// A verifier under the keys of a [`KeyTable`], which were read once, for any number of verifiers in any number of threads.
+    /// [`TermsTable::keys`](crate::TermsTable::keys) are those that terms permit.
+    ///
+    /// # Errors
+    ///
+    /// The externally supplied data is too long.
+    ///
+    /// ```
+    /// use cose::{Block, KeyTable, Options, Verifier};
+    ///
+    /// let message = b"\xd1\x84\x43\xa1\x01\x05\xa0\x42hi\x58\x20\
+    ///     \x7d\x81\xe9\x64\xaa\xee\x5f\xbd\x8a\xdf\xb3\xf5\x33\x65\x7a\x9e\
+    ///     \xf9\xf7\x82\xf0\x4b\x91\x87\x7b\x60\x04\x27\x2a\x03\x52\xf9\x60";
+    /// let mut table_block = Block::new();
+    /// let table = KeyTable::read(&mut table_block, b"\xa2\x01\x04\x20\x44Jefe")?;
+    /// let (mut one, mut other) = (Block::new(), Block::new());
+    /// for block in [&mut one, &mut other] {
+    ///     let mut verifier = Verifier::under_table(block, &table, &Options::default())?;
+    ///     assert_eq!(verifier.feed(message)?.payload, b"hi");
+    ///     assert!(verifier.verdict(|_| false).is_ok());
+    /// }
+    /// # Ok::<(), cose::Error>(())
+    /// ```
+    ///
+    /// The table's memory can't go while a verifier under it is used, and no other keys are read into it:
+    ///
+    /// ```compile_fail,E0597
+    /// # use cose::{Block, KeyTable, Options, Verifier};
+    /// let mut block = Block::new();
+    /// let mut verifier = {
+    ///     let mut table_block = Block::new();
+    ///     let table = KeyTable::read(&mut table_block, b"\xa0").unwrap();
+    ///     Verifier::under_table(&mut block, &table, &Options::default()).unwrap()
+    /// };
+    /// verifier.reset();
+    /// ```
+    ///
+    /// ```compile_fail,E0499
+    /// # use cose::{Block, KeyTable, Options, Verifier};
+    /// let (mut block, mut table_block) = (Block::new(), Block::new());
+    /// let table = KeyTable::read(&mut table_block, b"\xa0").unwrap();
+    /// let mut verifier = Verifier::under_table(&mut block, &table, &Options::default()).unwrap();
+    /// let table = KeyTable::read(&mut table_block, b"\xa0").unwrap();
+    /// verifier.reset();
+    /// ```
+    pub fn open_under_table(
+        block: &'k mut S::Block,
+        table: &KeyTable<'k>,
+        options: &Options<'k>,
+    ) -> Result<Self, Error> {
+        let mut verifier = Self::begun(block)?;
+        let mut status = raw::Status::default();
+        // SAFETY: the block was begun, and that of the table has one, which is only read, as other threads may at the same time. Nobody
+        // writes to it, to its keys or to the external data while `'k` lasts, so as long as the verifier, whose block leads to them. The
+        // pointer with its length is that of one slice, and the handles are this call's own.
+        unsafe {
+            (S::FUNCTIONS.open_table)(
+                &mut verifier.handle(),
+                &table.handle(),
+                options.aad.as_ptr(),
+                options.aad.len(),
+                options.wanted as u8,
+                &mut status,
+            );
+        }
+        Status::of(&status).map(|_| verifier)
+    }
+
+    /// The same of messages whose payload is detached and has so many bytes, as [`detached`](Verifier::detached) takes them.
+    ///
+    /// # Errors
+    ///
+    /// The externally supplied data is too long.
+    pub fn open_under_table_detached(
+        block: &'k mut S::Block,
+        table: &KeyTable<'k>,
+        options: &Options<'k>,
+        payload_length: u64,
+    ) -> Result<Self, Error> {
+        let mut verifier = Self::begun(block)?;
+        let mut status = raw::Status::default();
+        // SAFETY: as in `open_under_table`.
+        unsafe {
+            (S::FUNCTIONS.open_table_detached)(
+                &mut verifier.handle(),
+                &table.handle(),
+                options.aad.as_ptr(),
+                options.aad.len(),
+                options.wanted as u8,
                 payload_length,
                 &mut status,
             );

@@ -16,7 +16,7 @@ from ._library import (
     StatusStruct,
     VerdictStruct,
 )
-from .keys import Keys
+from .keys import Keys, data_of
 from .verifier import Verdict, Verifier, _authentic
 
 
@@ -67,7 +67,9 @@ class Elsewhere(Verifier):
         payload_length: Optional[int] = None,
         large: bool = False,
     ) -> None:
-        super().__init__(keys, aad=aad, wanted=wanted, payload_length=payload_length, large=large)
+        # (there is no call that opens one under a table)
+        given = data_of(keys)
+        super().__init__(given, aad=aad, wanted=wanted, payload_length=payload_length, large=large)
         # of the message whose signature was asked for: an answer is about no other
         self._asked = self._call("message_number")
 

@@ -23,7 +23,7 @@ from ._library import (
 from ._numbers import reader
 from .admitting import Terms, terms_of
 from .choosing import ChosenKey, key_at
-from .keys import Keys, data_of
+from .keys import Keys, KeyTable, data_of
 
 _numbers_of = reader(FedStruct)
 # what a message that may still be authentic has after a piece
@@ -69,8 +69,9 @@ class Verifier:
     `feed` the pieces and keep the payload that each gives, then ask for the `verdict`, and drop
     the payload where that raises. `reset` begins the next message. With `payload_length` the
     payload is detached: once `feed` says `PAYLOAD_NEXT`, `feed_payload` takes it. The arguments
-    are those of `cose.verify`. `ecdsa` is asked once a message, by `verdict`. Until it has answered,
-    other threads wait, and a call of this verifier from it raises `RuntimeError`: its answer counts
+    are those of `cose.verify`. The keys of a `KeyTable` aren't read again, and any number of
+    verifiers may be under one. `ecdsa` is asked once a message, by `verdict`. Until it has
+    answered, other threads wait, and a call of this verifier from it raises `RuntimeError`: its answer counts
     for the message that it was asked about, and for no other.
 
     >>> with cose.Verifier(keys) as verifier:           # doctest: +SKIP
@@ -80,6 +81,8 @@ class Verifier:
 
     # the calls that open a block: of a payload in the message, and of a detached one
     _OPENING = ("edge_open", "edge_open_detached")
+    # the same under the keys of a table
+    _OPENING_TABLE = ("edge_open_table", "edge_open_table_detached")
 
     def __init__(
         self,
@@ -134,15 +137,20 @@ class Verifier:
         self._wanted = self._kind = wanted_of(wanted)
         self._is_large, self._calls = large, _library.large if large else small
         self._ecdsa = ecdsa
-        # the library reads both until the verifier is closed
+        # the library reads these until the verifier is closed, and keys of a table in its memory
         self._keys, self._aad = data_of(keys), bytes_of(aad, "aad")
+        self._table = keys if isinstance(keys, KeyTable) else None
         size, align = self._calls.verifier_size(), self._calls.verifier_align()
         self._block = Block("verifier", size, align)
         self._calls.begin(self._block.at)
 
     def _open(self, wanted: int, payload_length: Optional[int]) -> None:
-        given = (self._keys, len(self._keys), self._aad, len(self._aad), wanted)
-        self._begin(self._OPENING, given, payload_length)
+        rest = (self._aad, len(self._aad), wanted)
+        if self._table is None:
+            self._begin(self._OPENING, (self._keys, len(self._keys), *rest), payload_length)
+        else:
+            table = self._table._memory.handle()
+            self._begin(self._OPENING_TABLE, (table, *rest), payload_length)
 
     def _begin(
         self, names: Tuple[str, str], given: Tuple[Any, ...], payload_length: Optional[int]

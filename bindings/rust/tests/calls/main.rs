@@ -15,6 +15,7 @@ mod stated;
 mod terms_table;
 mod threads;
 mod tokens;
+mod under_tables;
 
 /// The bytes of hexadecimal digits.
 fn hex(digits: &str) -> Vec<u8> {

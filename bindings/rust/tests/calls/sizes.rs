@@ -10,10 +10,11 @@ use cose::{
 };
 
 /// What follows the protected bucket of [`HI`](crate::HI) and an unprotected bucket.
-const AFTER: &str = "42686958207d81e964aaee5fbd8adfb3f533657a9ef9f782f04b91877b6004272a0352f960";
+pub(crate) const AFTER: &str =
+    "42686958207d81e964aaee5fbd8adfb3f533657a9ef9f782f04b91877b6004272a0352f960";
 
 /// The same of a detached payload.
-const AFTER_DETACHED: &str =
+pub(crate) const AFTER_DETACHED: &str =
     "f658207d81e964aaee5fbd8adfb3f533657a9ef9f782f04b91877b6004272a0352f960";
 
 /// A token whose claims nest 16 deep: 709.
@@ -26,7 +27,7 @@ const FREE: Policy<'static> = Policy {
 };
 
 /// The bytes of a row: so many bytes of 5a are between its beginning and its end.
-fn row(beginning: &str, count: usize, end: &str) -> Vec<u8> {
+pub(crate) fn row(beginning: &str, count: usize, end: &str) -> Vec<u8> {
     hex(&(beginning.to_string() + &"5a".repeat(count) + end))
 }
 
@@ -35,7 +36,7 @@ fn refused<T>(reason: Reason, place: u64) -> Result<T, Error> {
 }
 
 /// The payload of a message that is fed in pieces of a length, where it is authentic.
-fn fed<S: Size>(
+pub(crate) fn fed<S: Size>(
     verifier: &mut Verifier<'_, S>,
     message: &[u8],
     length: usize,

@@ -3,10 +3,12 @@
 use std::sync::Barrier;
 use std::thread;
 
+use crate::sizes::fed;
 use crate::terms_table::{terms, EXPIRING, KEY};
 use crate::{hex, HI};
 use cose::{
-    Block, Error, KeyTable, NotAdmitted, Options, Policy, Reason, Refusal, Requirements, TermsTable,
+    Block, Error, KeyTable, NotAdmitted, Options, Policy, Reason, Refusal, Requirements,
+    TermsTable, Verifier,
 };
 
 /// How often each thread asks about its message and its token.
@@ -62,6 +64,20 @@ impl Case {
         assert_eq!(claims.map(|it| it.exp), self.wanted(Some(2), &self.token));
     }
 
+    /// A verifier of this thread's, which is fed under the table.
+    fn feed(&self, table: &KeyTable<'_>) {
+        let mut block = Block::new();
+        let mut verifier = Verifier::under_table(&mut block, table, &Options::default())
+            .expect("the external data isn't long");
+        for length in [self.message.len(), 7] {
+            assert_eq!(
+                fed(&mut verifier, &self.message, length),
+                self.wanted(b"hi".to_vec(), &self.message)
+            );
+            verifier.reset();
+        }
+    }
+
     fn ask_terms(&self, table: &TermsTable<'_>) {
         let verdict = table.authenticate(&self.message);
         assert_eq!(
@@ -96,19 +112,25 @@ fn threads_share_tables() {
                 for _ in 0..TURNS {
                     case.ask_keys(&keys);
                     case.ask_terms(&terms);
+                    case.feed(&keys);
+                    case.feed(&terms.keys());
                 }
             });
         }
     });
 }
 
-/// A table goes to another thread with what it borrows.
+/// A verifier under a table, and a table, go to another thread with what they borrow.
 #[test]
 fn a_table_may_go() {
     let (mut key_block, mut terms_block) = (Block::new(), Block::new());
     let keys = KeyTable::read(&mut key_block, KEY).expect("the key is good");
     let terms = TermsTable::read(&mut terms_block, &terms(KEY)).expect("the key is permitted");
+    let mut block = Block::new();
+    let mut verifier = Verifier::under_table(&mut block, &keys, &Options::default())
+        .expect("the external data isn't long");
     thread::scope(|scope| {
+        scope.spawn(move || assert_eq!(fed(&mut verifier, &hex(HI), 7), Ok(b"hi".to_vec())));
         scope.spawn(move || Case::good().ask_keys(&keys));
         scope.spawn(move || Case::forged().ask_terms(&terms));
     });
