@@ -493,7 +493,7 @@ static void large_admit(void)
     cose_large_admit(&terms, &requirements, OF(token), &claims);
 }
 
-enum { KIB = 1024, SMALL = 16 * KIB, TABLE = 24 * KIB, LARGE = 160 * KIB };
+enum { KIB = 1024, SMALL = 16 * KIB, LARGE = 160 * KIB };
 
 /* The calls in their order, the stack that each is promised, and what its answer is. */
 static const struct {
@@ -590,13 +590,13 @@ static const struct {
     {"large_verdict_of_mac", large_verdict_of_mac, SMALL, &verdict.reason, COSE_REASON_BAD_AUTH},
     {"large_open_elsewhere_detached", large_open_elsewhere_beside, SMALL, &status.status, COSE_MORE},
     {"table_begin", table_begin, SMALL, NULL, 0},
-    {"table_read", table_read, TABLE, &key_set.status, COSE_COMPLETE},
+    {"table_read", table_read, SMALL, &key_set.status, COSE_COMPLETE},
     {"table_verify", table_verify, SMALL, &verdict.reason, COSE_REASON_AMBIGUOUS_KEY},
-    {"table_read, again", table_read_one, TABLE, &key_set.status, COSE_COMPLETE},
+    {"table_read, again", table_read_one, SMALL, &key_set.status, COSE_COMPLETE},
     {"table_verify_cwt", table_verify_cwt, SMALL, &claims.status, COSE_AUTHENTIC},
-    {"table_read_under", table_read_under, TABLE, &key_set.status, COSE_COMPLETE},
+    {"table_read_under", table_read_under, SMALL, &key_set.status, COSE_COMPLETE},
     {"table_authenticate, 64 keys", table_authenticate, SMALL, &verdict.reason, COSE_REASON_AMBIGUOUS_KEY},
-    {"table_read_under, again", table_read_under_one, TABLE, &key_set.status, COSE_COMPLETE},
+    {"table_read_under, again", table_read_under_one, SMALL, &key_set.status, COSE_COMPLETE},
     {"table_authenticate", table_authenticate, SMALL, &verdict.reason, COSE_REASON_BAD_AUTH},
     {"table_admit", table_admit, SMALL, &claims.status, COSE_AUTHENTIC},
     {"open_table", open_table, SMALL, &status.status, COSE_MORE},
