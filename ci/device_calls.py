@@ -14,6 +14,7 @@ from typing import NamedTuple
 
 KEEPING = (
     *("open", "open_detached", "open_elsewhere", "open_elsewhere_detached", "open_under", "open_under_detached"),
+    *("open_table", "open_table_detached"),
     *("table_read", "table_read_under"),
 )
 HEADER = pathlib.Path(__file__).resolve().parent.parent / "include" / "cose.h"
@@ -105,9 +106,16 @@ def read_fields(it, struct, is_kept):
             yield f"{it}.{name}{f'[{at}]' if count > 1 else ''} = ({c_name(kind)})number({ctypes.sizeof(kind)});"
 
 
-def struct_of(name):
-    """The struct of C that has the block of a call."""
-    kinds = {"_table_": "table", "_make_sign1": "signer", "_make": "maker"}
+def is_under(name, at):
+    """Whether an argument of a call is the table under which its verifier is opened."""
+    return "_open_table" in name and at == 1
+
+
+def struct_of(name, at):
+    """The struct of C that has a block of a call."""
+    if is_under(name, at):
+        return "struct cose_table"
+    kinds = {"cose_table_": "table", "edge_table_": "table", "_make_sign1": "signer", "_make": "maker"}
     kind = next((kind for part, kind in kinds.items() if part in name), "verifier")
     size = next((size for size in ("large_", "device_") if f"_{size}" in name), "")
     return f"struct cose_{size}{kind}"
@@ -126,7 +134,7 @@ def argument(library, name, at, word, kind):
     if word == "memory":
         return [f"uint8_t *{it} = block_at(number(4));"], it
     if word == "block":
-        return [f"uint64_t {it}_slot = number(4);", f"{struct_of(name)} {it} = {{.at = block_at({it}_slot)}};"], f"&{it}"
+        return [f"uint64_t {it}_slot = number(4);", f"{struct_of(name, at)} {it} = {{.at = block_at({it}_slot)}};"], f"&{it}"
     if word == "filled":
         return [f"void *{it} = filled({ctypes.sizeof(kind._type_)});"], it
     return [f"{stated_structs(library)[kind._type_]} {it} = {{0}};", *read_fields(it, kind._type_, name.endswith(KEEPING))], f"&{it}"
@@ -219,7 +227,7 @@ class Call:
         if self.name == "cose_edge_wipe_bytes" and given[1] > device.rooms.answer - 16:
             ctypes.memset(given[0], 0, given[1])  # the package's own memory, for as much of which the board has no room
             return None
-        for word, kind in kinds_of(device.library, self.argtypes):
+        for place, (word, kind) in enumerate(kinds_of(device.library, self.argtypes)):
             value = left.pop(0)
             if word in ("room", "filled"):
                 size = left.pop(0) if word == "room" else ctypes.sizeof(kind._type_)
@@ -232,7 +240,7 @@ class Call:
             elif word == "memory":
                 body += struct.pack("<I", device.slot(value, large, True))
             elif word == "block":
-                body += struct.pack("<I", device.slot(value._obj.at, large, False))
+                body += struct.pack("<I", device.slot(value._obj.at, large and not is_under(self.name, place), False))
             elif word == "stated":
                 body += packed(value._obj)
             else:

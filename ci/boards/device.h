@@ -1,4 +1,5 @@
-/* On a board whose messages are fed alone (FED_ONLY) the calls of a verifier are those of the verifier for devices. */
+/* On a board whose messages are fed alone (FED_ONLY) a verifier is that for devices: the type of its handle says which
+ * calls are meant. */
 #ifndef DEVICE_H
 #define DEVICE_H
 
@@ -9,11 +10,6 @@
 #define cose_verifier_size cose_device_verifier_size
 #define cose_verifier_align cose_device_verifier_align
 #define cose_begin cose_device_begin
-#define cose_open cose_device_open
-#define cose_feed cose_device_feed
-#define cose_taken cose_device_taken
-#define cose_verdict cose_device_verdict
-#define cose_reset cose_device_reset
 #define cose_needs_sha512 cose_device_needs_sha512
 #endif
 
