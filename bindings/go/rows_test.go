@@ -250,8 +250,8 @@ func feed(v interface {
 	return used, nil
 }
 
-func (g *group) runPieces(r *row, large bool, size int) error {
-	v, err := cose.NewVerifier(g.Keys, g.options(r, large))
+func (g *group) runPieces(r *row, open opener, large bool, size int) error {
+	v, err := open(g.options(r, large))
 	if err != nil {
 		return differs("NewVerifier", refusal(err), r.Result.refusal("refused"))
 	}
@@ -315,8 +315,10 @@ func runMessage(g *group, r *row) error {
 			}
 		}
 		for _, size := range cuts {
-			if err = g.runPieces(r, large, size); err != nil {
-				return err
+			for how, open := range openers(g.Keys) {
+				if err = g.runPieces(r, open, large, size); err != nil {
+					return fmt.Errorf("%s: %w", how, err)
+				}
 			}
 			if err = g.runElsewhere(r, nil, large, size); err != nil {
 				return err
@@ -332,8 +334,8 @@ func runMessage(g *group, r *row) error {
 // ---- detached messages
 
 // runDetachedPieces is a detached message in pieces, or its first bytes.
-func (g *group) runDetachedPieces(r *row, length uint64, large bool, size, end int) error {
-	v, err := cose.NewDetachedVerifier(g.Keys, length, g.options(r, large))
+func (g *group) runDetachedPieces(r *row, open opener, length uint64, large bool, size, end int) error {
+	v, err := open(g.options(r, large))
 	if err != nil {
 		return err
 	}
@@ -382,17 +384,20 @@ func runDetached(g *group, r *row) error {
 	if _, err = fmt.Sscan(g.PayloadLength, &length); err != nil {
 		return err
 	}
+	under := detachedOpeners(g.Keys, length)
 	for _, large := range sizes {
 		for _, size := range cuts {
-			if err = g.runDetachedPieces(r, length, large, size, len(r.Message)); err != nil {
-				return err
+			for how, open := range under {
+				if err = g.runDetachedPieces(r, open, length, large, size, len(r.Message)); err != nil {
+					return fmt.Errorf("%s: %w", how, err)
+				}
 			}
 			if err = g.runElsewhere(r, &length, large, size); err != nil {
 				return err
 			}
 		}
 		for end := 0; r.Result.isGood() && end < *r.Result.Taken; end++ {
-			if err = g.runDetachedPieces(r, length, large, 64, end); err != nil {
+			if err = g.runDetachedPieces(r, under["keys"], length, large, 64, end); err != nil {
 				return err
 			}
 		}

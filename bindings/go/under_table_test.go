@@ -34,6 +34,35 @@ func detachedUnderTable(t *testing.T, table *cose.KeyTable, length int, options 
 	return v
 }
 
+// An opener makes a verifier.
+type opener func(*cose.Options) (*cose.Verifier, error)
+
+// openers make verifiers under keys and, where these make one, under a table of them.
+func openers(its []byte) map[string]opener {
+	under := map[string]opener{
+		"keys": func(options *cose.Options) (*cose.Verifier, error) { return cose.NewVerifier(its, options) },
+	}
+	if table, err := cose.NewKeyTable(its); err == nil {
+		under["table"] = func(options *cose.Options) (*cose.Verifier, error) { return cose.NewVerifierUnderTable(table, options) }
+	}
+	return under
+}
+
+// detachedOpeners make the same of messages whose payload is detached.
+func detachedOpeners(its []byte, length uint64) map[string]opener {
+	under := map[string]opener{
+		"keys": func(options *cose.Options) (*cose.Verifier, error) {
+			return cose.NewDetachedVerifier(its, length, options)
+		},
+	}
+	if table, err := cose.NewKeyTable(its); err == nil {
+		under["table"] = func(options *cose.Options) (*cose.Verifier, error) {
+			return cose.NewDetachedVerifierUnderTable(table, length, options)
+		}
+	}
+	return under
+}
+
 // fed is the payload of a message that is fed in two pieces, as the next of a verifier.
 func fed(v *cose.Verifier, message []byte) (payload string, err error) {
 	if err = v.Reset(); err != nil {

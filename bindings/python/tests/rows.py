@@ -82,7 +82,11 @@ def run_whole(keys: Any, message: bytes, options: Row, result: Row) -> None:
         equal(answer(lambda: call(message)), trailing if is_whole else wanted, "verify, all bytes")
 
 
-def run_pieces(keys: bytes, message: bytes, options: Row, result: Row, size: int) -> None:
+def under(keys: Any) -> str:
+    return ", under a table" if isinstance(keys, cose.KeyTable) else ""
+
+
+def run_pieces(keys: Any, message: bytes, options: Row, result: Row, size: int) -> None:
     came = bytearray()
     with cose.Verifier(keys, **options) as verifier:
 
@@ -92,7 +96,7 @@ def run_pieces(keys: bytes, message: bytes, options: Row, result: Row, size: int
 
         is_good = result["verdict"] == "authentic"
         payload = octets(result, "payload") if is_good else b""
-        how = f"Verifier, pieces of {size}"
+        how = f"Verifier, pieces of {size}{under(keys)}"
         equal(answer(call), expected(result, len(payload)), how)
         equal(verifier.taken, result["taken"], f"{how}, taken")
         if is_good:
@@ -229,10 +233,12 @@ def run_message(group: Row, test: Row) -> None:
             "large": large,
         }
         keys, message = octets(group, "keys"), octets(test, "message")
-        for held in [keys] if large else [keys, cose.KeyTable(keys)]:
+        table = cose.KeyTable(keys)
+        for held in [keys] if large else [keys, table]:
             run_whole(held, message, options, result)
         for size in CUTS:
             run_pieces(keys, message, options, result, size)
+            run_pieces(table, message, options, result, size)
             run_elsewhere(keys, test, options, size)
         changes = ("another bit", "a MAC of another message")
         for change in changes if result["verdict"] == "authentic" else ():
@@ -251,7 +257,7 @@ def feed_payload(verifier: cose.Verifier, payload: bytes, size: int) -> int:
 
 
 def run_detached_pieces(
-    keys: bytes, test: Row, length: int, options: Row, size: int, end: Optional[int] = None
+    keys: Any, test: Row, length: int, options: Row, size: int, end: Optional[int] = None
 ) -> None:
     """A detached message in pieces, or its first `end` bytes."""
     result, message, payload = (
@@ -259,7 +265,7 @@ def run_detached_pieces(
         octets(test, "message")[:end],
         octets(test, "payload"),
     )
-    how, count = f"Verifier, detached, pieces of {size}", 0
+    how, count = f"Verifier, detached, pieces of {size}{under(keys)}", 0
     wanted = expected(result, length) if end is None else ("refused", "Truncated", end)
     with cose.Verifier(keys, payload_length=length, **options) as verifier:
 
@@ -288,6 +294,7 @@ def run_detached(group: Row, test: Row) -> None:
         }
         for size in CUTS:
             run_detached_pieces(keys, test, length, options, size)
+            run_detached_pieces(cose.KeyTable(keys), test, length, options, size)
             run_elsewhere(keys, test, options, size, length)
         for end in range(result["taken"] if is_good else 0):
             run_detached_pieces(keys, test, length, options, 64, end)
