@@ -89,7 +89,7 @@ func NewDetachedVerifierUnder(keys []byte, payloadLength uint64, terms *Terms) (
 }
 
 // NewVerifierUnderTable is a verifier of messages that have their payload, under the keys of a table, which aren't read again. Any number
-// of verifiers may be under one table, in any number of goroutines. Once the table is closed, each call returns ErrClosed.
+// of verifiers may be under one table, in any number of goroutines. Once the table is closed, each call but Close returns ErrClosed.
 func NewVerifierUnderTable(table *KeyTable, options *Options) (*Verifier, error) {
 	return newVerifierUnderTable(table, options, false, 0)
 }
