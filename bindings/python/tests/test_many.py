@@ -5,9 +5,10 @@ import json
 import threading
 import unittest
 from typing import Any, Callable, Dict, List, Tuple
+from unittest import mock
 
 import cose
-from cose import cbor
+from cose import _calls, cbor
 from support import EXAMPLES, KEYS, REPOSITORY, TAG_CWT, mac0, sign1, sign1_parts
 
 NOW = 1_000
@@ -117,6 +118,26 @@ class Many(unittest.TestCase):
                 elif result["reason"] in ("Indefinite", "Truncated"):
                     with self.assertRaises(ValueError):
                         cbor.end_of_item(item)
+
+    def test_signed_is_read_once(self) -> None:
+        """A token whose tags say that it is signed is verified as a message, and by no call for tokens."""
+        protected, _ = sign1_parts(b"", -7)
+        signed = sign1(cbor.encode({2: "s", 4: NOW}), protected, bytes(64))
+        options: Dict[str, Any] = {"now": NOW - 1, "ecdsa": lambda _: True}
+        table, terms = cose.KeyTable(SIGN1_KEYS), cose.TermsTable(SIGN1_KEYS, without_alg=True)
+        wanted = cose.Claims(cbor.encode({2: "s", 4: NOW}), sub="s", exp=NOW)
+        for token_call, message_call, verified in (
+            ("verify_cwt", "verify", lambda it: cose.verify_cwt(SIGN1_KEYS, it, **options)),
+            ("table_verify_cwt", "table_verify", lambda it: cose.verify_cwt(table, it, **options)),
+            ("table_verify_cwt", "table_verify", lambda it: cose.verify_many(table, [it], **options)[0]),
+            ("table_admit", "table_authenticate", lambda it: terms.admit(it, **options)),
+        ):
+            for data in (signed, TAG_CWT + signed):
+                with self.subTest(token_call), mock.patch.object(_calls, token_call) as of_tokens:
+                    call = getattr(_calls, message_call)
+                    with mock.patch.object(_calls, message_call, side_effect=call) as of_messages:
+                        self.assertEqual(verified(data), wanted)
+                    self.assertEqual((of_tokens.call_count, of_messages.call_count), (0, 1))
 
     def test_signed(self) -> None:
         """Signatures are asked about one by one."""

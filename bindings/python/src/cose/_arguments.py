@@ -68,3 +68,12 @@ def text_of(value: str, name: str) -> bytes:
 def wanted_of(value: Optional[Kind]) -> int:
     """The kind that is wanted, by its number: 0 where the message's tag says it."""
     return 0 if value is None else Kind(value).value
+
+
+def says_signed(token: bytes) -> bool:
+    """Whether the tags that a token begins with are those of one that is signed (RFC 8392 section 6).
+
+    Such a token is verified as a message, so that it is read once. One that spells its tags otherwise
+    is read twice.
+    """
+    return token.startswith((b"\xd2", b"\xd8\x3d\xd2"))

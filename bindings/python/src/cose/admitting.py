@@ -8,7 +8,16 @@ from typing import Iterable, Optional, Sequence
 
 from . import _library
 from ._answers import Ecdsa, fail, is_good
-from ._arguments import Algorithm, Buffer, Kind, bytes_of, number_of, text_of, wanted_of
+from ._arguments import (
+    Algorithm,
+    Buffer,
+    Kind,
+    bytes_of,
+    number_of,
+    says_signed,
+    text_of,
+    wanted_of,
+)
 from ._library import (
     ClaimsStruct,
     RequirementsStruct,
@@ -273,10 +282,11 @@ def admit(
         understood,
         payload_limit,
     )
-    found, calls = ClaimsStruct(), _library.large if large else small
-    calls.edge_admit(byref(terms.struct), byref(requirements), data, len(data), byref(found))
-    if found.status == Status.AUTHENTIC:
-        return claims_of(data, bytes(found))
-    if found.status != Status.SIGNED:
-        fail(found)
+    if not says_signed(data):
+        found, calls = ClaimsStruct(), _library.large if large else small
+        calls.edge_admit(byref(terms.struct), byref(requirements), data, len(data), byref(found))
+        if found.status == Status.AUTHENTIC:
+            return claims_of(data, bytes(found))
+        if found.status != Status.SIGNED:
+            fail(found)
     return claims_under(requirements, _message(terms, data, None, ecdsa, large).payload, large)

@@ -7,7 +7,7 @@ from typing import Iterable, Optional
 
 from . import _calls
 from ._answers import Ecdsa, fail
-from ._arguments import Buffer, Kind, bytes_of
+from ._arguments import Buffer, Kind, bytes_of, says_signed
 from ._library import ClaimsStruct, KeySetStruct, Memory, Status, small
 from .admitting import Terms, claims_under, requirements_of
 from .keys import Keys
@@ -102,9 +102,10 @@ class TermsTable:
         requirements = requirements_of(
             now, leeway, issuer, subject, audience, present, max_lifetime, max_age, without_exp
         )
-        found = _calls.table_admit(self._memory.at, bytes(requirements), data)
-        if found[0] == _SIGNED:
-            return claims_under(requirements, self.authenticate(data, ecdsa=ecdsa).payload, False)
-        if found[0] != _AUTHENTIC:
-            fail(ClaimsStruct.from_buffer_copy(found))
-        return claims_of(data, found)
+        if not says_signed(data):
+            found = _calls.table_admit(self._memory.at, bytes(requirements), data)
+            if found[0] == _AUTHENTIC:
+                return claims_of(data, found)
+            if found[0] != _SIGNED:
+                fail(ClaimsStruct.from_buffer_copy(found))
+        return claims_under(requirements, self.authenticate(data, ecdsa=ecdsa).payload, False)

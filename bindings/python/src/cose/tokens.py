@@ -10,7 +10,7 @@ from typing import Any, Dict, Optional, Tuple, Union, cast
 
 from . import _calls, _library, cbor
 from ._answers import Ecdsa, fail
-from ._arguments import Buffer, Kind, bytes_of, number_of, text_of
+from ._arguments import Buffer, Kind, bytes_of, number_of, says_signed, text_of
 from ._fields import AT, PAYLOAD, Field, Found, Reader, bytes_in, pair_at, range_of
 from ._library import ClaimsStruct, ItemStruct, PolicyStruct, Status, small
 from .keys import Keys, KeyTable, data_of
@@ -210,7 +210,7 @@ def verify_cwt(
     """
     data, external = bytes_of(token, "token"), bytes_of(aad, "aad")
     policy = policy_of(now, leeway, audience)
-    if wanted is None:
+    if wanted is None and not says_signed(data):
         found = _read(keys, external, policy, data, large)
         if found[0] == _AUTHENTIC:
             return claims_of(data, found)
