@@ -63,7 +63,7 @@ PREPARED = "ecdsa, large)\n        self._open("
 TABLE_MESSAGE = "return message_of(found, None, ecdsa,"
 TABLE_SIGNED = "self.authenticate(data, ecdsa=ecdsa).payload"
 TABLE_RECEIVED = "(data, self._terms.struct.kind, False)"
-ADMITTED = "found, calls = ClaimsStruct(), _library.large if large else small\n    calls.edge_admit"
+ADMITTED = "found, calls = ClaimsStruct(), _library.large if large else small\n        calls.edge_admit"
 PYTHON = losses_of(
     "bindings/python/src/cose",
     {
@@ -97,7 +97,7 @@ PYTHON = losses_of(
             ("verify_cwt: audience", f"policy = {GIVEN}", f"policy = {GIVEN.replace('audience', 'None')}"),
             ("verify_cwt: aad", "_read(keys, external, policy, data, large)", '_read(keys, b"", policy, data, large)'),
             ("verify_cwt: large", "_read(keys, external, policy, data, large)", "_read(keys, external, policy, data, False)"),
-            ("verify_cwt: wanted", "if wanted is None:", "if True:"),
+            ("verify_cwt: wanted", "if wanted is None and not", "if not"),
             ("verify_cwt, signed: aad", SIGNED, SIGNED.replace("aad=external, ", "")),
             ("verify_cwt, signed: wanted", SIGNED, SIGNED.replace("wanted=wanted, ", "")),
             ("verify_cwt, signed: large", SIGNED, SIGNED.replace(", large=large", "")),
@@ -109,7 +109,7 @@ PYTHON = losses_of(
         ],
         "admitting.py": [
             *arguments("authenticate", TERMS, TERMS_LINES, "    return _message(", NOT_STATED),
-            *arguments("admit", TERMS, TERMS_LINES, "    found, calls", NOT_STATED),
+            *arguments("admit", TERMS, TERMS_LINES, "    if not says_signed", NOT_STATED),
             *arguments("admit_claims", REQUIRED, REQUIRED_LINE, "    return claims_under", NOT_REQUIRED),
             *arguments("admit", REQUIRED, REQUIRED_LINE, "    terms = ", NOT_REQUIRED),
             ("stated, authenticate: payload", "else bytes_of(payload, ", 'else b"" and bytes_of(payload, '),
@@ -135,7 +135,7 @@ PYTHON = losses_of(
         ],
         "terms_table.py": [
             *arguments("TermsTable", TERMS, IN_CLASS["terms"], "        # the memory", NOT_STATED),
-            *arguments("TermsTable.admit", REQUIRED, IN_CLASS["required"], "        found = ", NOT_REQUIRED),
+            *arguments("TermsTable.admit", REQUIRED, IN_CLASS["required"], "        if not says_signed", NOT_REQUIRED),
             ("stated, TermsTable.authenticate: ecdsa", TABLE_MESSAGE, TABLE_MESSAGE.replace("ecdsa", "lambda _: True")),
             ("stated, TermsTable.admit: ecdsa", TABLE_SIGNED, TABLE_SIGNED.replace("=ecdsa", "=lambda _: True")),
             ("stated, TermsTable: the kind of parameters", TABLE_RECEIVED, TABLE_RECEIVED.replace("self._terms.struct.kind", "0")),
