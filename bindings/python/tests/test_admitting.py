@@ -119,6 +119,14 @@ class Tokens(unittest.TestCase):
         with self.assertRaises(cose.SignatureUnverified):
             cose.admit(keys, signed, **options)
 
+    def test_large_header_of_a_signed_token(self) -> None:
+        """A header of more than 1,024 bytes is read in the large size, of a token that is signed too."""
+        signed = sign1(PAYLOAD, cbor.encode({1: -7, 1000: bytes(1_024)}), b"\x33" * 64)
+        options: Any = {"now": NOW, "ecdsa": lambda _: True}
+        self.assertEqual(cose.admit(cbor.encode(POINT), signed, large=True, **options).sub, "erikw")
+        with self.assertRaisesRegex(cose.Refused, "PastRoom"):
+            cose.admit(cbor.encode(POINT), signed, **options)
+
     def test_clock(self) -> None:
         """By default the time is that of the machine's clock."""
         moment = int(time.time())
