@@ -159,11 +159,13 @@ def of_sizes():
 def overloads():
     """For C++: a function of the small size's name for each other size."""
     for it, short, sizes in of_sizes():
-        parameters = [Parameter(*pair) for pair in it.parameters]
-        passed = ", ".join(word.split()[-1].lstrip("*") for each in parameters for word in each.declared(True))
         for size in sizes:
-            declared = declaration(it, f"cose_{short}", parameters, True).replace("static inline", "inline").replace("cose_verifier", f"cose_{size}_verifier")
-            yield f"{'COSE_MUST_USE_ ' if it.result else ''}{declared}"
+            handle = ("verifier", f"&mut Cose{size.title()}Verifier")
+            parameters = [Parameter(*pair) for pair in (handle, *it.parameters[1:])]
+            passed = ", ".join(word.split()[-1].lstrip("*") for each in parameters for word in each.declared(True))
+            if it.result:
+                yield "COSE_MUST_USE_"
+            yield declaration(it, f"cose_{short}", parameters, True).removeprefix("static ")
             yield "{"
             yield f"    {'return ' if it.result else ''}cose_{size}_{short}({passed});"
             yield "}"

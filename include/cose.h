@@ -10,10 +10,10 @@
  *     overlapped by any other argument.
  *   - Bytes don't change while a call reads them.
  *   - A block (of a verifier, a table, a maker or a signer) has the size and the alignment that its functions return, is begun once
- *     before anything else, and isn't copied. One call at a time uses it, but for those that verify under a table, which only read it:
- *     any number of threads may make them at once, while no other call uses the table.
- *   - The keys and the external data of cose_open and the other calls that open, and those of cose_table_read and cose_table_read_under,
- *     stay as they are until the next such call of that block, or until its last use.
+ *     before anything else, and isn't copied. One call at a time uses it, but for those that verify under a table, which only read it,
+ *     and those of verifiers that are open under it: any number of threads may make them at once, while no other call uses the table.
+ *   - The keys, or the table, and the external data of cose_open and the other calls that open, and those of cose_table_read and
+ *     cose_table_read_under, stay as they are until the next such call of that block, or until its last use.
  *   - A payload isn't used before its message is authentic.
  *
  * Every place is the number of bytes before a byte: of the message, of the key set, or, of claims, of the payload. Every range (.._at,
@@ -2382,15 +2382,19 @@ inline void cose_open_elsewhere_detached(struct cose_large_verifier *verifier, c
 {
     cose_large_open_elsewhere_detached(verifier, keys, keys_length, aad, aad_length, kind, payload_length, status);
 }
-COSE_MUST_USE_ inline uint8_t cose_front_pieces(struct cose_large_verifier *verifier, uint8_t *header, size_t header_room, struct cose_pieces *pieces)
+COSE_MUST_USE_
+inline uint8_t cose_front_pieces(struct cose_large_verifier *verifier, uint8_t *header, size_t header_room,
+    struct cose_pieces *pieces)
 {
     return cose_large_front_pieces(verifier, header, header_room, pieces);
 }
-COSE_MUST_USE_ inline uint8_t cose_asked_key(struct cose_large_verifier *verifier, struct cose_chosen_key *asked)
+COSE_MUST_USE_
+inline uint8_t cose_asked_key(struct cose_large_verifier *verifier, struct cose_chosen_key *asked)
 {
     return cose_large_asked_key(verifier, asked);
 }
-COSE_MUST_USE_ inline uint8_t cose_asked_signature(struct cose_large_verifier *verifier, struct cose_received_signature *signature)
+COSE_MUST_USE_
+inline uint8_t cose_asked_signature(struct cose_large_verifier *verifier, struct cose_received_signature *signature)
 {
     return cose_large_asked_signature(verifier, signature);
 }
@@ -2445,27 +2449,33 @@ inline void cose_feed(struct cose_device_verifier *verifier, const uint8_t *piec
 {
     cose_device_feed(verifier, piece, piece_length, fed);
 }
-COSE_MUST_USE_ inline uint64_t cose_wanted(struct cose_large_verifier *verifier)
+COSE_MUST_USE_
+inline uint64_t cose_wanted(struct cose_large_verifier *verifier)
 {
     return cose_large_wanted(verifier);
 }
-COSE_MUST_USE_ inline uint64_t cose_wanted(struct cose_device_verifier *verifier)
+COSE_MUST_USE_
+inline uint64_t cose_wanted(struct cose_device_verifier *verifier)
 {
     return cose_device_wanted(verifier);
 }
-COSE_MUST_USE_ inline uint64_t cose_payload_wanted(struct cose_large_verifier *verifier)
+COSE_MUST_USE_
+inline uint64_t cose_payload_wanted(struct cose_large_verifier *verifier)
 {
     return cose_large_payload_wanted(verifier);
 }
-COSE_MUST_USE_ inline uint64_t cose_payload_wanted(struct cose_device_verifier *verifier)
+COSE_MUST_USE_
+inline uint64_t cose_payload_wanted(struct cose_device_verifier *verifier)
 {
     return cose_device_payload_wanted(verifier);
 }
-COSE_MUST_USE_ inline uint64_t cose_feed_payload(struct cose_large_verifier *verifier, const uint8_t *piece, size_t piece_length)
+COSE_MUST_USE_
+inline uint64_t cose_feed_payload(struct cose_large_verifier *verifier, const uint8_t *piece, size_t piece_length)
 {
     return cose_large_feed_payload(verifier, piece, piece_length);
 }
-COSE_MUST_USE_ inline uint64_t cose_feed_payload(struct cose_device_verifier *verifier, const uint8_t *piece, size_t piece_length)
+COSE_MUST_USE_
+inline uint64_t cose_feed_payload(struct cose_device_verifier *verifier, const uint8_t *piece, size_t piece_length)
 {
     return cose_device_feed_payload(verifier, piece, piece_length);
 }
@@ -2477,11 +2487,13 @@ inline void cose_end(struct cose_device_verifier *verifier, struct cose_status *
 {
     cose_device_end(verifier, status);
 }
-COSE_MUST_USE_ inline uint8_t cose_sign_input(struct cose_large_verifier *verifier, struct cose_signature_input *input)
+COSE_MUST_USE_
+inline uint8_t cose_sign_input(struct cose_large_verifier *verifier, struct cose_signature_input *input)
 {
     return cose_large_sign_input(verifier, input);
 }
-COSE_MUST_USE_ inline uint8_t cose_sign_input(struct cose_device_verifier *verifier, struct cose_signature_input *input)
+COSE_MUST_USE_
+inline uint8_t cose_sign_input(struct cose_device_verifier *verifier, struct cose_signature_input *input)
 {
     return cose_device_sign_input(verifier, input);
 }
@@ -2493,11 +2505,13 @@ inline void cose_verdict(struct cose_device_verifier *verifier, int32_t signatur
 {
     cose_device_verdict(verifier, signature_is_good, verdict);
 }
-COSE_MUST_USE_ inline uint64_t cose_message_number(struct cose_large_verifier *verifier)
+COSE_MUST_USE_
+inline uint64_t cose_message_number(struct cose_large_verifier *verifier)
 {
     return cose_large_message_number(verifier);
 }
-COSE_MUST_USE_ inline uint64_t cose_message_number(struct cose_device_verifier *verifier)
+COSE_MUST_USE_
+inline uint64_t cose_message_number(struct cose_device_verifier *verifier)
 {
     return cose_device_message_number(verifier);
 }
@@ -2519,24 +2533,28 @@ inline void cose_reset(struct cose_device_verifier *verifier)
 {
     cose_device_reset(verifier);
 }
-COSE_MUST_USE_ inline uint64_t cose_taken(struct cose_large_verifier *verifier)
+COSE_MUST_USE_
+inline uint64_t cose_taken(struct cose_large_verifier *verifier)
 {
     return cose_large_taken(verifier);
 }
-COSE_MUST_USE_ inline uint64_t cose_taken(struct cose_device_verifier *verifier)
+COSE_MUST_USE_
+inline uint64_t cose_taken(struct cose_device_verifier *verifier)
 {
     return cose_device_taken(verifier);
 }
-COSE_MUST_USE_ inline uint64_t cose_held(struct cose_large_verifier *verifier)
+COSE_MUST_USE_
+inline uint64_t cose_held(struct cose_large_verifier *verifier)
 {
     return cose_large_held(verifier);
 }
-COSE_MUST_USE_ inline uint64_t cose_held(struct cose_device_verifier *verifier)
+COSE_MUST_USE_
+inline uint64_t cose_held(struct cose_device_verifier *verifier)
 {
     return cose_device_held(verifier);
 }
-inline void cose_header(struct cose_large_verifier *verifier, uint32_t is_protected, int64_t label, uint8_t *into, size_t into_room,
-    struct cose_item *item)
+inline void cose_header(struct cose_large_verifier *verifier, uint32_t is_protected, int64_t label, uint8_t *into,
+    size_t into_room, struct cose_item *item)
 {
     cose_large_header(verifier, is_protected, label, into, into_room, item);
 }
@@ -2545,8 +2563,8 @@ inline void cose_header_named(struct cose_large_verifier *verifier, uint32_t is_
 {
     cose_large_header_named(verifier, is_protected, name, name_length, into, into_room, item);
 }
-inline void cose_open_table(struct cose_large_verifier *verifier, const struct cose_table *table, const uint8_t *aad, size_t aad_length,
-    enum cose_kind_number kind, struct cose_status *status)
+inline void cose_open_table(struct cose_large_verifier *verifier, const struct cose_table *table, const uint8_t *aad,
+    size_t aad_length, enum cose_kind_number kind, struct cose_status *status)
 {
     cose_large_open_table(verifier, table, aad, aad_length, kind, status);
 }
