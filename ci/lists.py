@@ -156,7 +156,7 @@ PLACES = {
         Places(
             "claim",
             of_claim,
-            "crates/cose_cwt/src/claims.rt crates/cose_cwt/src/claims/known.rt crates/cose_cwt/src/tests/debug.rt "
+            "crates/cose_cwt/src/claims.rt crates/cose_cwt/src/claims/known.rt crates/cose_tests/src/tests/debug.rt "
             "crates/cose_cwt/specs/Claims.antt crates/cose_cwt/specs/Claims/Labels.antt "
             "crates/cose_cwt/specs/Claims/Form.antt crates/cose_cwt/specs/Claims/Known.antt "
             "crates/cose_cwt/specs/Claims/Known/View.antt crates/cose_cwt/proofs/KnownClaims.antt "

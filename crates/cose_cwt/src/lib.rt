@@ -68,6 +68,3 @@ pub use policy::{Audience, Policy};
 pub use required::{Token, TokenStop, verify_token};
 pub use requirements::{Claim, Requirement, Requirements, Unmet};
 pub use token::{CwtStop, verify_cwt};
-
-#[cfg(test)]
-mod tests;

@@ -10,6 +10,4 @@ pub mod line;
 pub mod memory;
 pub mod signatures;
 pub mod table;
-#[cfg(test)]
-mod tests;
 pub mod token;

@@ -1,6 +1,6 @@
-//! What no row of rows/ can be: streams that fail, what is asked of them, states between calls, `Debug`, and the example of the
-//! crate's page. Tests of the crates below are here too, since they use public calls alone, and a crate with tests is proved twice.
+//! Bytes, contexts and comparisons that several modules use.
 
+mod callers;
 mod confirmation;
 mod debug;
 mod examples;
@@ -11,7 +11,7 @@ mod stops;
 
 ghost use Rattle.std.specs.Prelude.{◌≡◌, ◌≤◌, length, true};
 
-use crate::{Audience, Policy};
+use cose_cwt::{Audience, Policy};
 use cose_map::{Reason, Refusal};
 use cose_msg::{Context, KeySet, Wanted};
 use std::fmt::Debug;

@@ -1,7 +1,7 @@
 //! A message under the key that a token confirms.
 
 use crate::tests::{CONFIRMING, JEFE, at, context, equal};
-use crate::verify_cwt;
+use cose_cwt::verify_cwt;
 use cose_msg::{
     Alg, EcVerifier, Key, KeySet, Kind, Never, Nothing, SliceIntake, Store, Verdict, Verifier,
     verify,

@@ -4,12 +4,14 @@ ghost use Rattle.std.specs.Prelude.{◌≡◌, ◌&&◌, false, if◌then◌else
 ghost use Rattle.std.specs.Str.{bytes_eq};
 ghost use Rattle.cose_msg.specs.Kept.{is_inspecting};
 
-use crate::context::context;
-use crate::line::{Port, listen};
-use crate::tests::{AUTHENTIC, JEFE, MESSAGE, equal, refused};
+use crate::tests::callers::MESSAGE;
+use crate::tests::messages::samples::context_of;
+use crate::tests::messages::{POINT_SET, SIGNED, authentic, refused};
+use crate::tests::{JEFE, equal};
+use cose_examples::line::{Port, listen};
 use cose_mac::Alg;
 use cose_map::{Kind, Reason};
-use cose_msg::{EcVerifier, Key, KeySet, Never, Store, Verdict, Verifier};
+use cose_msg::{EcVerifier, Key, Never, Store, Verdict, Verifier};
 use std::process::Abort;
 
 /// A line on which 1, 2 and so on to 7 bytes come between two interrupts, and then 1 again.
@@ -60,13 +62,14 @@ fn hears_once<E: EcVerifier>(
 /// The same of a device with this key, twice: nothing is left of a message before.
 fn hears<E: EcVerifier>(
     rt: &impl Abort,
-    keys: KeySet,
+    keys: &'static [u8],
     bytes: &[u8],
     ec: &E,
     verdict: Verdict,
     payload: &[u8],
 ) {
-    let mut verifier = Verifier::new(context(keys));
+    let context = context_of(keys, 4_096).expect(rt, "a context");
+    let mut verifier = Verifier::new(context);
     hears_once(rt, &mut verifier, bytes, ec, verdict, payload);
     if verifier.is_inspecting() {
         panic!(rt; "it inspects");
@@ -78,8 +81,8 @@ fn hears<E: EcVerifier>(
 fn gives_back_what_follows_a_message(rt: HostRuntime) {
     let mut bytes = [0; 48];
     bytes[..44].copy_from_slice(MESSAGE);
-    let keys = KeySet::read(JEFE).expect(&rt, "a key set");
-    let mut verifier = Verifier::new(context(keys));
+    let context = context_of(JEFE, 4_096).expect(&rt, "a context");
+    let mut verifier = Verifier::new(context);
     let mut line = Line {
         bytes: &bytes,
         last: 0,
@@ -88,28 +91,15 @@ fn gives_back_what_follows_a_message(rt: HostRuntime) {
     let mut handler = Store::<16>::new();
     let heard = listen(&mut verifier, &mut line, &mut handler, &Never);
     let left = (line.back, line.bytes.len());
-    equal(&rt, (heard, left), (Ok(AUTHENTIC), (4, 0)));
+    equal(&rt, (heard, left), (Ok(authentic(44)), (4, 0)));
 }
 
 #[test]
 fn listens_to_a_line(rt: HostRuntime) {
-    let keys = KeySet::read(JEFE).expect(&rt, "a key set");
-    hears(&rt, keys, MESSAGE, &Never, AUTHENTIC, b"hi");
+    hears(&rt, JEFE, MESSAGE, &Never, authentic(44), b"hi");
     let truncated = refused(Reason::Truncated, 9);
-    hears(&rt, keys, &MESSAGE[..9], &Never, truncated, b"h");
+    hears(&rt, JEFE, &MESSAGE[..9], &Never, truncated, b"h");
 }
-
-/// The key of a point of P-256 with both coordinates (RFC 9053 section 7.1.1), which is also the key set of that key alone.
-const POINT_SET: &[u8] = &[
-    0xa4, 0x01, 0x02, 0x20, 0x01, 0x21, 0x58, 0x20, 0x11, 0x11, 0x11, 0x11, 0x11, 0x11, 0x11, 0x11,
-    0x11, 0x11, 0x11, 0x11, 0x11, 0x11, 0x11, 0x11, 0x11, 0x11, 0x11, 0x11, 0x11, 0x11, 0x11, 0x11,
-    0x11, 0x11, 0x11, 0x11, 0x11, 0x11, 0x11, 0x11, 0x22, 0x58, 0x20, 0x22, 0x22, 0x22, 0x22, 0x22,
-    0x22, 0x22, 0x22, 0x22, 0x22, 0x22, 0x22, 0x22, 0x22, 0x22, 0x22, 0x22, 0x22, 0x22, 0x22, 0x22,
-    0x22, 0x22, 0x22, 0x22, 0x22, 0x22, 0x22, 0x22, 0x22, 0x22, 0x22,
-];
-
-/// The beginning of a COSE_Sign1 of an empty payload by ES256, up to the signature.
-const SIGNED: &[u8] = b"\xd2\x84\x43\xa1\x01\x26\xa0\x40\x58\x40";
 
 /// The digest that its signature is of (RFC 9052 section 4.4), by Python's hashlib.
 const DIGEST: &[u8; 32] = &[
@@ -134,7 +124,6 @@ impl EcVerifier for Knows<'_> {
 
 #[test]
 fn decides_on_a_signature_from_a_line(rt: HostRuntime) {
-    let keys = KeySet::read(POINT_SET).expect(&rt, "a key set");
     let signature = [7; 64];
     let mut bytes = [7; 74];
     bytes[..10].copy_from_slice(SIGNED);
@@ -148,7 +137,7 @@ fn decides_on_a_signature_from_a_line(rt: HostRuntime) {
         payload: 0,
         taken: 74,
     };
-    hears(&rt, keys, &bytes, &knows, signed, b"");
+    hears(&rt, POINT_SET, &bytes, &knows, signed, b"");
     let bad_auth = refused(Reason::BadAuth, 8);
-    hears(&rt, keys, &bytes, &Never, bad_auth, b"");
+    hears(&rt, POINT_SET, &bytes, &Never, bad_auth, b"");
 }

@@ -1,7 +1,7 @@
 //! The examples of the crates' documentation.
 
 use crate::tests::{JEFE, TOKEN, equal};
-use crate::{
+use cose_cwt::{
     Audience, Context, CwtStop, KeySet, Never, Policy, SliceIntake, Store, Verifier, Wanted,
     verify_cwt,
 };

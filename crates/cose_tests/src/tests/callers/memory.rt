@@ -1,7 +1,8 @@
 //! A message in memory.
 
-use crate::memory::{Problem, payload_in};
-use crate::tests::{CHANGED, JEFE, LONGER, MESSAGE, equal, refusal};
+use crate::tests::callers::{CHANGED, LONGER, MESSAGE};
+use crate::tests::{JEFE, equal, refusal};
+use cose_examples::memory::{Problem, payload_in};
 use cose_map::Reason;
 use cose_msg::Verifier;
 use std::mem::size_of;

@@ -4,11 +4,12 @@ ghost use Rattle.std.specs.Prelude.{◌≡◌, false};
 ghost use Rattle.cose_msg.specs.Kept.{is_inspecting};
 ghost use Rattle.cose_msg.specs.Verifier.{is_detached};
 
-use crate::context::context;
-use crate::intake::{Problem, payload_length, payload_of};
-use crate::tests::{CHANGED, JEFE, LONGER, MESSAGE, equal, refusal};
+use crate::tests::callers::{CHANGED, LONGER, MESSAGE};
+use crate::tests::messages::samples::context_of;
+use crate::tests::{JEFE, equal, refusal};
+use cose_examples::intake::{Problem, payload_length, payload_of};
 use cose_map::Reason;
-use cose_msg::{KeySet, ReadIntake, SliceIntake, Stop, Store, Verifier};
+use cose_msg::{ReadIntake, SliceIntake, Stop, Store, Verifier};
 use std::io::{Error, ErrorKind, Read};
 use std::process::Abort;
 
@@ -65,8 +66,8 @@ fn stops(rt: &impl Abort, verifier: &mut Verifier<1_024, 8>)
 
 #[test]
 fn begins_again_after_a_stop(rt: HostRuntime) {
-    let keys = KeySet::read(JEFE).expect(&rt, "a key set");
-    let mut verifier = Verifier::new(context(keys));
+    let context = context_of(JEFE, 4_096).expect(&rt, "a context");
+    let mut verifier = Verifier::new(context);
     stops(&rt, &mut verifier);
     stops(&rt, &mut verifier);
     let mut store = Store::new();

@@ -1,7 +1,8 @@
 //! Many messages under the same keys.
 
-use crate::table::count_authentic;
-use crate::tests::{CHANGED, JEFE, MESSAGE, equal};
+use crate::tests::callers::{CHANGED, MESSAGE};
+use crate::tests::{JEFE, equal};
+use cose_examples::table::count_authentic;
 use cose_msg::KeyTable;
 
 #[test]

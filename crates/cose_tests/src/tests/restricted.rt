@@ -3,7 +3,7 @@
 ghost use Rattle.std.specs.Prelude.{◌≡◌, ◌≤◌, length, true};
 
 use crate::tests::{TOKEN, at, equal, refusal};
-use crate::{CwtStop, verify_cwt};
+use cose_cwt::{CwtStop, verify_cwt};
 use cose_map::{Reason, Restrictions};
 use cose_msg::{
     Context, KeyTable, Never, Nothing, SliceIntake, Status, Store, Verdict, Verifier, Wanted,

@@ -1,5 +1,5 @@
 use Rattle.std.proofs.Common.{Ok, refl}
-use Rattle.cose_cwt.proofs.tests.messages.slice.verdict_again.Goals as goal
+use Rattle.cose_tests.proofs.tests.messages.slice.verdict_again.Goals as goal
 
 pub returns-clause-verdict : goal.returns-clause-verdict
 returns-clause-verdict g c = let kept = c.verify_slice.ensures.kept in rw (c.verify.ensures.again (Ok kept.0) kept.2).0 kept.1

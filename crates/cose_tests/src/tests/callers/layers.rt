@@ -1,7 +1,8 @@
 //! From header buckets to a MAC.
 
-use crate::layers::is_authentic;
-use crate::tests::{CHANGED, JEFE, MESSAGE, equal, refusal};
+use crate::tests::callers::{CHANGED, MESSAGE};
+use crate::tests::{JEFE, equal, refusal};
+use cose_examples::layers::is_authentic;
 use cose_map::Reason;
 
 #[test]

@@ -1,7 +1,7 @@
 //! What `Debug` prints of items, keys and claims: how many bytes there are, and none of them.
 
-use crate::Claims;
 use crate::tests::{JEFE, equal};
+use cose_cwt::Claims;
 use cose_head::{ItemRef, Items};
 use cose_map::{Key, KeySet, KeyTable};
 use std::alloc::Global;

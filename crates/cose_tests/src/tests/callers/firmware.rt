@@ -4,9 +4,11 @@ ghost use Rattle.std.specs.Prelude.{◌≡◌, false, true};
 ghost use Rattle.cose_msg.specs.Kept.{is_inspecting};
 ghost use Rattle.cose_msg.specs.Verifier.{is_detached};
 
-use crate::context::context;
-use crate::firmware::{install, update};
-use crate::tests::{JEFE, MESSAGE, equal, refused};
+use crate::tests::callers::MESSAGE;
+use crate::tests::messages::refused;
+use crate::tests::messages::samples::context_of;
+use crate::tests::{JEFE, equal};
+use cose_examples::firmware::{install, update};
 use cose_mac::Alg;
 use cose_map::{Kind, Reason};
 use cose_msg::{KeySet, Never, SliceIntake, Store, Verdict, Verifier};
@@ -57,8 +59,8 @@ fn updates_once(
 
 /// The same, twice: the verdict on a message before says nothing of another image.
 fn updates(rt: &impl Abort, message: &[u8], image: &[u8], verdict: Verdict, count: usize) {
-    let keys = KeySet::read(JEFE).expect(rt, "a key set");
-    let mut verifier = Verifier::detached(context(keys), 600);
+    let context = context_of(JEFE, 4_096).expect(rt, "a context");
+    let mut verifier = Verifier::detached(context, 600);
     updates_once(rt, &mut verifier, message, image, verdict, count);
     if verifier.is_inspecting() || !verifier.is_detached() {
         panic!(rt; "it is made for another purpose");

@@ -3,10 +3,10 @@
 ghost use Rattle.std.specs.Prelude.{◌==◌, ◌&&◌};
 ghost use Rattle.std.specs.Str.{bytes_eq};
 
-use crate::context::context;
-use crate::signatures::{Curves, Signatures};
+use crate::tests::messages::samples::context_of;
 use crate::tests::{JEFE, equal, refusal};
-use cose_msg::{Alg, EcVerifier, Key, KeySet, Kind, Reason, Verified, Verifier, verify_slice};
+use cose_examples::signatures::{Curves, Signatures};
+use cose_msg::{Alg, EcVerifier, Key, Kind, Reason, Verified, Verifier, verify_slice};
 use std::process::Abort;
 
 /// Accepts one signature alone, which another implementation accepts.
@@ -120,9 +120,15 @@ const DIGEST_512: &[u8; 64] = &[
 ];
 
 /// What a message is under these keys, where the curves accept this signature alone.
-fn gives(rt: &impl Abort, keys: &[u8], message: &[u8], curves: Only<'_>, wanted: Verified<'_>) {
-    let keys = KeySet::read(keys).expect(rt, "a key set");
-    let mut verifier = Verifier::<16, 4>::new(context(keys));
+fn gives(
+    rt: &impl Abort,
+    keys: &'static [u8],
+    message: &[u8],
+    curves: Only<'_>,
+    wanted: Verified<'_>,
+) {
+    let context = context_of(keys, 4_096).expect(rt, "a context");
+    let mut verifier = Verifier::<16, 4>::new(context);
     let verified = verify_slice(&mut verifier, message, &Signatures { curves });
     equal(rt, verified, wanted);
 }

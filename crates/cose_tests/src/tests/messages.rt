@@ -9,7 +9,7 @@ mod intake;
 mod limits;
 mod making;
 mod pieces;
-mod samples;
+pub(crate) mod samples;
 mod slice;
 mod stops;
 mod store;
@@ -40,10 +40,10 @@ const STRUCTURE: &[u8] = &[
 ];
 
 /// The beginning of a COSE_Sign1 of an empty payload, up to the signature.
-const SIGNED: &[u8] = b"\xd2\x84\x43\xa1\x01\x26\xa0\x40\x58\x40";
+pub(crate) const SIGNED: &[u8] = b"\xd2\x84\x43\xa1\x01\x26\xa0\x40\x58\x40";
 
 /// The key of a point of P-256 with both coordinates (RFC 9053 section 7.1.1), which is also the key set of that key alone.
-const POINT_SET: &[u8] = &[
+pub(crate) const POINT_SET: &[u8] = &[
     0xa4, 0x01, 0x02, 0x20, 0x01, 0x21, 0x58, 0x20, 0x11, 0x11, 0x11, 0x11, 0x11, 0x11, 0x11, 0x11,
     0x11, 0x11, 0x11, 0x11, 0x11, 0x11, 0x11, 0x11, 0x11, 0x11, 0x11, 0x11, 0x11, 0x11, 0x11, 0x11,
     0x11, 0x11, 0x11, 0x11, 0x11, 0x11, 0x11, 0x11, 0x22, 0x58, 0x20, 0x22, 0x22, 0x22, 0x22, 0x22,
@@ -127,7 +127,7 @@ fn signed_digest() -> [u8; 32] {
 }
 
 /// The verdict on a COSE_Mac0 of the payload `hi` by HMAC 256/256, which took this many bytes.
-const fn authentic(taken: u64) -> Verdict {
+pub(crate) const fn authentic(taken: u64) -> Verdict {
     Verdict::Authentic {
         kind: Kind::Mac0,
         alg: Alg::Hmac256,
@@ -137,7 +137,7 @@ const fn authentic(taken: u64) -> Verdict {
 }
 
 /// The verdict on a message that is refused.
-const fn refused(reason: Reason, place: u64) -> Verdict {
+pub(crate) const fn refused(reason: Reason, place: u64) -> Verdict {
     Verdict::Refused(Refusal { reason, place })
 }
 

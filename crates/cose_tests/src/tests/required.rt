@@ -1,7 +1,7 @@
 //! A token of which something is required.
 
 use crate::tests::{JEFE, TOKEN, at, context, equal};
-use crate::{Claim, Requirement, Requirements, Token, TokenStop, Unmet, verify_token};
+use cose_cwt::{Claim, Requirement, Requirements, Token, TokenStop, Unmet, verify_token};
 use cose_msg::{Alg, KeySet, Kind, Never, Sink, SliceIntake, Store, Verifier};
 use std::process::Abort;
 use std::test::Fail;

@@ -1,7 +1,7 @@
 //! Intakes that fail, verdicts that are kept, and a store that failed before.
 
 use crate::tests::{JEFE, TOKEN, at, context, equal, refusal};
-use crate::{CwtStop, verify_cwt};
+use cose_cwt::{CwtStop, verify_cwt};
 use cose_map::Reason;
 use cose_msg::{KeySet, Never, ReadIntake, Sink, SliceIntake, Stop, Store, Verifier};
 use std::io;
