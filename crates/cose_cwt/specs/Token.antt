@@ -7,6 +7,7 @@ use Rattle.cose_msg.specs.declared.verdict.Verdict.{Verdict}
 use Rattle.cose_msg.specs.declared.verdict.Verdict.TheVariants.{Authentic, Refused}
 use Rattle.cose_msg.specs.declared.verifier.Verifier.{Verifier}
 use Rattle.cose_msg.specs.Answer.{decided}
+use Rattle.cose_msg.specs.Change.{IntakeChange, sink_from}
 use Rattle.cose_msg.specs.Kept.{answered_again, bytes_taken, kept_answer}
 use Rattle.cose_msg.specs.Message.{Decides, Setting, message, verdict_of, verifying}
 use Rattle.cose_msg.specs.Reading.{Reading}
@@ -58,11 +59,11 @@ UnlessStopped (Err (stops.Claims refusal)) says = says
 -- The effect of a call. A verifier that had taken nothing has taken these bytes. Its getters give what these bytes
 -- give, its status is the one after these bytes, and it keeps its verdict. The outcome is the result for the token, by
 -- this verdict and the payload among these bytes. The place of a refusal of the claims is in the payload, or at its end.
-pub record IsRun {H D : ℕ} {S : Type 0} {K : _} (setting : Setting) (decides : Decides) (policy : PolicyValue) (come come_after : Option (List ℕ)) (ended : Bool) (v : Verifier H D S K) (outcome : Outcome) : Type 0 where
+pub record IsRun {H D : ℕ} {S : Type 0} {K : _} (setting : Setting) (decides : Decides) (policy : PolicyValue) (intake : IntakeChange) (v : Verifier H D S K) (outcome : Outcome) : Type 0 where
   pub taken : List ℕ
   pub payload : List ℕ
   pub verdict : Result Verdict Stop
-  pub run : Run (verifying H D setting decides) decided [] [] come come_after ended (Some []) (Some payload) verdict taken
+  pub run : Run (verifying H D setting decides) decided [] [] intake (sink_from (Some []) (Some payload)) verdict taken
   pub counted : bytes_taken v ≡ length taken
   pub shows : ShowsReading (to_verify setting) taken v
   pub current : status_in v ≡ status_left verdict (message (rules_of H D (to_verify setting)) taken)

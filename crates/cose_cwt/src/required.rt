@@ -4,6 +4,7 @@ ghost use Rattle.std.specs.Prelude.{◌≡◌, ◌↔◌, ◌≤◌, ◌||◌, �
 ghost use Rattle.cose_head.specs.declared.refusal.Refusal.{Refusal};
 ghost use Rattle.cose_msg.specs.declared.verdict.Stop.{Stop};
 ghost use Rattle.cose_msg.specs.declared.verdict.Verdict.{Verdict};
+ghost use Rattle.cose_msg.specs.Change.{intake_change};
 ghost use Rattle.cose_msg.specs.Kept.{HasTaken, SamePurpose, bytes_taken, is_inspecting, is_stopped, kept_answer};
 ghost use Rattle.cose_msg.specs.Message.{Setting};
 ghost use Rattle.cose_msg.specs.Task.{to_verify};
@@ -143,8 +144,8 @@ pub fn verify_token<
     // What `verify_cwt` does and says of it, and the token by the same verdict and payload.
     ensures run { (setting : Setting) → HasTaken (to_verify setting) [] [] verifier.old →
         IsRequiredRun setting (E.decides ec.now) (policy_value policy.entry.now)
-        (requirements_value requirements.entry.now) (I.to_come intake.old) (I.to_come intake.new)
-        (I.ended intake.new) verifier.new (token_seen result) }
+        (requirements_value requirements.entry.now)
+        (intake_change I.to_come I.ended intake.old intake.new) verifier.new (token_seen result) }
     // Where the intake's bytes are known to the contract, the result is that of all of them.
     ensures token { (setting : Setting) (bytes : List ℕ)
         → HasTaken (to_verify setting) [] [] verifier.old → I.to_come intake.old ≡ Some bytes →

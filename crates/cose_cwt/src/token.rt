@@ -5,6 +5,7 @@ ghost use Rattle.cose_head.specs.declared.refusal.Refusal.{Refusal};
 ghost use Rattle.cose_map.specs.Map.View.{seen_by};
 ghost use Rattle.cose_msg.specs.declared.verdict.Stop.{Stop};
 ghost use Rattle.cose_msg.specs.declared.verdict.Verdict.{Verdict};
+ghost use Rattle.cose_msg.specs.Change.{intake_change};
 ghost use Rattle.cose_msg.specs.Kept.{HasTaken, SamePurpose, bytes_taken, is_inspecting, is_stopped, kept_answer};
 ghost use Rattle.cose_msg.specs.Message.{Setting};
 ghost use Rattle.cose_msg.specs.Task.{to_verify};
@@ -118,8 +119,8 @@ pub fn verify_cwt<
     // The bytes that were taken, what the verifier's getters give of them, the verdict that is kept, the payload among
     // them, and the result for the token by that verdict and that payload.
     ensures run { (setting : Setting) → HasTaken (to_verify setting) [] [] verifier.old →
-        IsRun setting (E.decides ec.now) (policy_value policy.entry.now) (I.to_come intake.old)
-        (I.to_come intake.new) (I.ended intake.new) verifier.new (claims_seen result) }
+        IsRun setting (E.decides ec.now) (policy_value policy.entry.now)
+        (intake_change I.to_come I.ended intake.old intake.new) verifier.new (claims_seen result) }
     // Where the intake's bytes are known to the contract, the result is that of all of them.
     ensures token { (setting : Setting) (bytes : List ℕ)
         → HasTaken (to_verify setting) [] [] verifier.old → I.to_come intake.old ≡ Some bytes →
