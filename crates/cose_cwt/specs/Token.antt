@@ -1,5 +1,5 @@
 -- The result for a token (RFC 8392 section 7.2): the verdict on the message, and then the claims of its payload.
-use Rattle.std.specs.Prelude.{◌≡◌, ◌≤◌, ℕ, Bool, List, [], length, Option, Some, None, Result, Ok, Err, ⊤}
+use Rattle.std.specs.Prelude.{◌≡◌, ◌≤◌, ℕ, Bool, false, List, [], length, Option, Some, None, Result, Ok, Err, ⊤}
 use Rattle.cose_head.specs.declared.refusal.Refusal.{Refusal}
 use Rattle.cose_map.specs.Map.Read.{Read}
 use Rattle.cose_msg.specs.declared.verdict.Stop.{Stop}
@@ -8,7 +8,7 @@ use Rattle.cose_msg.specs.declared.verdict.Verdict.TheVariants.{Authentic, Refus
 use Rattle.cose_msg.specs.declared.verifier.Verifier.{Verifier}
 use Rattle.cose_msg.specs.Answer.{decided}
 use Rattle.cose_msg.specs.Change.{IntakeChange, sink_from}
-use Rattle.cose_msg.specs.Kept.{answered_again, bytes_taken, kept_answer}
+use Rattle.cose_msg.specs.Kept.{HasTaken, answered_again, bytes_taken, kept_answer}
 use Rattle.cose_msg.specs.Message.{Decides, Setting, message, verdict_of, verifying}
 use Rattle.cose_msg.specs.Reading.{Reading}
 use Rattle.cose_msg.specs.Run.{Run, is_intake_stop, is_sink_stop}
@@ -83,3 +83,18 @@ is_for_intake stop = is_intake_stop stop
 
 abbrev pub is_for_store : Option Stop → Bool
 is_for_store stop = is_sink_stop stop
+
+-- ---- what the calls for tokens say alike
+
+-- Of a verifier that has taken nothing: whatever its setting is, and whatever bytes are known to come.
+abbrev pub WhateverSetting : {H D : ℕ} {S : Type 0} {K : _} → Verifier H D S K → (Setting → Type 0) → Type 0
+WhateverSetting v fact = (setting : Setting) → HasTaken (to_verify setting) [] [] v → fact setting
+
+abbrev pub WhateverBytes : {H D : ℕ} {S : Type 0} {K : _} → Verifier H D S K → Option (List ℕ) → (Setting → List ℕ → Type 0) → Type 0
+WhateverBytes v come fact = (setting : Setting) (bytes : List ℕ) → HasTaken (to_verify setting) [] [] v → come ≡ Some bytes → fact setting bytes
+
+-- Of a verifier that keeps an answer: this is said of the answer, the verifier and the intake are unchanged, and the call doesn't
+-- stop for the intake.
+abbrev pub AnswersAgain : {H D : ℕ} {S : Type 0} {K : _} {F : Type 0} → Verifier H D S K → Verifier H D S K → F → F → Option Stop → (Result Verdict Stop → Type 0) → Type 0
+AnswersAgain v next intake intake_after stop said =
+    (answer : Result Verdict Stop) → kept_answer v ≡ Some answer → said answer × (next ≡ v) × (intake_after ≡ intake) × (is_for_intake stop ≡ false)
