@@ -6,7 +6,7 @@ use Rattle.cose_head.specs.Placed.{Placed, bytes_in, children_of, head_of_item, 
 use Rattle.cose_head.specs.PlacedLaws.{end_of}
 use Rattle.cose_map.specs.Key.Value.{KeyValue, MaterialValue, YValue, coordinate, elliptic, sign, symmetric}
 use Rattle.cose_map.specs.Map.Form.{Table}
-use Rattle.cose_cwt.specs.Confirmation.{ConfirmationValue}
+use Rattle.cose_cwt.specs.Confirmation.{CnfValue}
 use Rattle.cose_c.specs.declared.numbers.CoseStatus.{CoseStatus}
 use Rattle.cose_c.specs.declared.cose_claims.CoseClaims.{CoseClaims}
 use Rattle.cose_c.specs.declared.cose_claims.CoseDate.{CoseDate}
@@ -146,11 +146,11 @@ sign_number None = 0
 sign_number (Some key) = sign_of_material key.material
 
 -- Those of the key that a token confirms (RFC 8747 section 3.2), 0 where it confirms none.
-abbrev pub confirmed_curve : Option ConfirmationValue → ℕ
+abbrev pub confirmed_curve : Option CnfValue → ℕ
 confirmed_curve None = 0
 confirmed_curve (Some confirmation) = curve_number confirmation.key
 
-abbrev pub confirmed_sign : Option ConfirmationValue → ℕ
+abbrev pub confirmed_sign : Option CnfValue → ℕ
 confirmed_sign None = 0
 confirmed_sign (Some confirmation) = sign_number confirmation.key
 

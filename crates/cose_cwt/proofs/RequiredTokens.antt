@@ -11,6 +11,7 @@ use Rattle.cose_msg.specs.declared.verdict.Stop.TheVariants.{Again}
 use Rattle.cose_msg.specs.declared.verdict.Verdict.{Verdict}
 use Rattle.cose_msg.specs.declared.verdict.Verdict.TheVariants.{Authentic, Refused}
 use Rattle.cose_msg.specs.Answer.{decided}
+use Rattle.cose_msg.specs.Change.{intake_from, sink_from}
 use Rattle.cose_msg.specs.Laws.{MessageStays}
 use Rattle.cose_msg.specs.Message.{Decides, Setting, verifying}
 use Rattle.cose_msg.specs.Kept.{answer_kept}
@@ -36,7 +37,7 @@ required_unless_stopped (Err (stops.Cwt stop)) says = unless_stopped (Err stop) 
 required_unless_stopped (Err (stops.Unmet unmet)) says = says
 
 judged : MessageStays → (H D : ℕ) (setting : Setting) (decides : Decides) (policy : PolicyValue) (requirements : RequirementsValue) (come_after : Option (List ℕ)) (ended : Bool) (verdict : Verdict) (taken payload bytes : List ℕ) (outcome : Required) →
-    Run (verifying H D setting decides) decided [] [] (Some bytes) come_after ended (Some []) (Some payload) (Ok verdict) taken → outcome ≡ required_of D policy requirements (Ok verdict) payload →
+    Run (verifying H D setting decides) decided [] [] (intake_from (Some bytes) come_after ended) (sink_from (Some []) (Some payload)) (Ok verdict) taken → outcome ≡ required_of D policy requirements (Ok verdict) payload →
     IsRequiredToken H D setting decides policy requirements bytes outcome
 judged stays H D setting decides policy requirements come_after ended verdict taken payload bytes outcome run comes =
     let read = read_whole stays H D setting decides come_after ended verdict taken payload bytes run in
@@ -47,11 +48,11 @@ judged stays H D setting decides policy requirements come_after ended verdict ta
     }
 
 pub required_of_run : MessageStays → (H D : ℕ) (setting : Setting) (decides : Decides) (policy : PolicyValue) (requirements : RequirementsValue) (come come_after : Option (List ℕ)) (ended : Bool) (verdict : Result Verdict Stop) (taken payload bytes : List ℕ) (outcome : Required) →
-    Run (verifying H D setting decides) decided [] [] come come_after ended (Some []) (Some payload) verdict taken → outcome ≡ required_of D policy requirements verdict payload → come ≡ Some bytes →
+    Run (verifying H D setting decides) decided [] [] (intake_from come come_after ended) (sink_from (Some []) (Some payload)) verdict taken → outcome ≡ required_of D policy requirements verdict payload → come ≡ Some bytes →
     RequiredUnlessStopped outcome (IsRequiredToken H D setting decides policy requirements bytes outcome)
 required_of_run stays H D setting decides policy requirements come come_after ended (Ok verdict) taken payload bytes outcome run comes e =
     required_unless_stopped outcome (judged stays H D setting decides policy requirements come_after ended verdict taken payload bytes outcome
-    (subst (λ (old : Option (List ℕ)). Run (verifying H D setting decides) decided [] [] old come_after ended (Some []) (Some payload) (Ok verdict) taken) e run) comes)
+    (subst (λ (old : Option (List ℕ)). Run (verifying H D setting decides) decided [] [] (intake_from old come_after ended) (sink_from (Some []) (Some payload)) (Ok verdict) taken) e run) comes)
 required_of_run stays H D setting decides policy requirements come come_after ended (Err stop) taken payload bytes outcome run comes e =
     subst (λ (o : Required). RequiredUnlessStopped o (IsRequiredToken H D setting decides policy requirements bytes outcome)) (sym comes) tt
 

@@ -9,6 +9,7 @@ use Rattle.cose_msg.specs.declared.verdict.Stop.{Stop}
 use Rattle.cose_msg.specs.declared.verdict.Stop.TheVariants.{Again}
 use Rattle.cose_msg.specs.declared.verdict.Verdict.{Verdict}
 use Rattle.cose_msg.specs.declared.verdict.Verdict.TheVariants.{Authentic, Refused}
+use Rattle.cose_msg.specs.Change.{IntakeChange, intake_from, sink_from}
 use Rattle.cose_msg.specs.Kept.{answer_kept}
 use Rattle.cose_msg.specs.Laws.{MessageStays}
 use Rattle.cose_msg.specs.Message.{Decides, Setting, verifying}
@@ -22,13 +23,13 @@ use Rattle.cose_cwt.specs.Claims.{ClaimsValue}
 use Rattle.cose_cwt.specs.Token.{IsToken, Outcome, UnlessStopped, is_for_intake, is_for_store, of_claims, read_as, stop_in, token_of}
 
 -- the contents of a store before and after, where they are known
-pub with_contents : (rules : Rules) (come come_after contents contents_after : Option (List ℕ)) (ended : Bool) (verdict : Result Verdict Stop) (taken payload : List ℕ) →
+pub with_contents : (rules : Rules) (intake : IntakeChange) (contents contents_after : Option (List ℕ)) (verdict : Result Verdict Stop) (taken payload : List ℕ) →
     contents ≡ Some [] → contents_after ≡ Some payload →
-    Run rules decided [] [] come come_after ended contents contents_after verdict taken →
-    Run rules decided [] [] come come_after ended (Some []) (Some payload) verdict taken
-with_contents rules come come_after contents contents_after ended verdict taken payload before after run =
-    subst (λ (old : Option (List ℕ)). Run rules decided [] [] come come_after ended old (Some payload) verdict taken) before
-    (subst (λ (new : Option (List ℕ)). Run rules decided [] [] come come_after ended contents new verdict taken) after run)
+    Run rules decided [] [] intake (sink_from contents contents_after) verdict taken →
+    Run rules decided [] [] intake (sink_from (Some []) (Some payload)) verdict taken
+with_contents rules intake contents contents_after verdict taken payload before after run =
+    subst (λ (old : Option (List ℕ)). Run rules decided [] [] intake (sink_from old (Some payload)) verdict taken) before
+    (subst (λ (new : Option (List ℕ)). Run rules decided [] [] intake (sink_from contents new) verdict taken) after run)
 
 -- The reading of the bytes taken is that of all bytes.
 same_reading : MessageStays → (H D : ℕ) (setting : Setting) (decides : Decides) (taken rest : List ℕ) (settled : Bool) → (read_as H D setting decides taken).settled ≡ settled →
@@ -39,7 +40,7 @@ same_reading stays H D setting decides taken rest false is ends =
 
 -- All bytes have the verdict that the bytes taken have, and the payload that was among them.
 pub read_whole : MessageStays → (H D : ℕ) (setting : Setting) (decides : Decides) (come_after : Option (List ℕ)) (ended : Bool) (verdict : Verdict) (taken payload bytes : List ℕ) →
-    Run (verifying H D setting decides) decided [] [] (Some bytes) come_after ended (Some []) (Some payload) (Ok verdict) taken →
+    Run (verifying H D setting decides) decided [] [] (intake_from (Some bytes) come_after ended) (sink_from (Some []) (Some payload)) (Ok verdict) taken →
     ((read_as H D setting decides bytes).answer ≡ decided verdict) × ((read_as H D setting decides bytes).so_far.payload ≡ payload)
 read_whole stays H D setting decides None ended verdict taken payload bytes run = absurd run.bytes
 read_whole stays H D setting decides (Some rest) ended verdict taken payload bytes run =
@@ -51,7 +52,7 @@ read_whole stays H D setting decides (Some rest) ended verdict taken payload byt
     (ap (λ (reading : Reading). reading.answer) same ∙ run.answer.answer, ap (λ (reading : Reading). reading.so_far.payload) same ∙ grown)
 
 judged : MessageStays → (H D : ℕ) (setting : Setting) (decides : Decides) (policy : PolicyValue) (come_after : Option (List ℕ)) (ended : Bool) (verdict : Verdict) (taken payload bytes : List ℕ) (outcome : Outcome) →
-    Run (verifying H D setting decides) decided [] [] (Some bytes) come_after ended (Some []) (Some payload) (Ok verdict) taken → outcome ≡ token_of D policy (Ok verdict) payload →
+    Run (verifying H D setting decides) decided [] [] (intake_from (Some bytes) come_after ended) (sink_from (Some []) (Some payload)) (Ok verdict) taken → outcome ≡ token_of D policy (Ok verdict) payload →
     IsToken H D setting decides policy bytes outcome
 judged stays H D setting decides policy come_after ended verdict taken payload bytes outcome run comes =
     let read = read_whole stays H D setting decides come_after ended verdict taken payload bytes run in
@@ -68,11 +69,11 @@ unless_stopped (Err (stops.Message refusal)) says = says
 unless_stopped (Err (stops.Claims refusal)) says = says
 
 pub token_of_run : MessageStays → (H D : ℕ) (setting : Setting) (decides : Decides) (policy : PolicyValue) (come come_after : Option (List ℕ)) (ended : Bool) (verdict : Result Verdict Stop) (taken payload bytes : List ℕ) (outcome : Outcome) →
-    Run (verifying H D setting decides) decided [] [] come come_after ended (Some []) (Some payload) verdict taken → outcome ≡ token_of D policy verdict payload → come ≡ Some bytes →
+    Run (verifying H D setting decides) decided [] [] (intake_from come come_after ended) (sink_from (Some []) (Some payload)) verdict taken → outcome ≡ token_of D policy verdict payload → come ≡ Some bytes →
     UnlessStopped outcome (IsToken H D setting decides policy bytes outcome)
 token_of_run stays H D setting decides policy come come_after ended (Ok verdict) taken payload bytes outcome run comes e =
     unless_stopped outcome (judged stays H D setting decides policy come_after ended verdict taken payload bytes outcome
-    (subst (λ (old : Option (List ℕ)). Run (verifying H D setting decides) decided [] [] old come_after ended (Some []) (Some payload) (Ok verdict) taken) e run) comes)
+    (subst (λ (old : Option (List ℕ)). Run (verifying H D setting decides) decided [] [] (intake_from old come_after ended) (sink_from (Some []) (Some payload)) (Ok verdict) taken) e run) comes)
 token_of_run stays H D setting decides policy come come_after ended (Err stop) taken payload bytes outcome run comes e =
     subst (λ (o : Outcome). UnlessStopped o (IsToken H D setting decides policy bytes outcome)) (sym comes) tt
 

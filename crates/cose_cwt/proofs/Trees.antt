@@ -9,9 +9,9 @@ use Rattle.cose_map.specs.Map.Read.{Read, check_map, refuse, ◌>>=◌}
 use Rattle.cose_cwt.specs.Claims.{ClaimsValue, claims_at, claims_of, claims_with, confirmation_at, is_token}
 use Rattle.cose_cwt.specs.Claims.Form.{claims_table}
 use Rattle.cose_cwt.specs.Claims.Labels.{cnf}
-use Rattle.cose_cwt.specs.Confirmation.{ConfirmationValue}
+use Rattle.cose_cwt.specs.Confirmation.{CnfValue}
 
-with_confirmation : (pairs : List Pair) (claims : ClaimsValue) (answer : Read (Option ConfirmationValue)) → (answer >>= (λ confirmation. Ok (claims_with pairs confirmation))) ≡ Ok claims →
+with_confirmation : (pairs : List Pair) (claims : ClaimsValue) (answer : Read (Option CnfValue)) → (answer >>= (λ confirmation. Ok (claims_with pairs confirmation))) ≡ Ok claims →
     pairs ≡ claims.pairs
 with_confirmation pairs claims (Err refusal) e = absurd cc
 with_confirmation pairs claims (Ok confirmation) e = let same : claims_with pairs confirmation ≡ claims = cc in ap (λ (c : ClaimsValue). c.pairs) same

@@ -14,7 +14,7 @@ use Rattle.cose_map.specs.Key.Material.{material_of}
 use Rattle.cose_map.specs.Key.Value.{elliptic, coordinate}
 use Rattle.cose_cwt.specs.Claims.{ClaimsValue, claims_of, texts_from, iss_of, sub_of, auds_of, exp_of, nbf_of, iat_of, cti_of}
 use Rattle.cose_cwt.specs.Claims.Form.{claims_table}
-use Rattle.cose_cwt.specs.Confirmation.{ConfirmationValue, confirmation_of, members_table}
+use Rattle.cose_cwt.specs.Confirmation.{CnfValue, confirmation_of, members_table}
 
 -- The values of the claims.
 pub record Said : Type 0 where
@@ -25,7 +25,7 @@ pub record Said : Type 0 where
   pub nbf : Option ℤ
   pub iat : Option ℤ
   pub cti : Option (List ℕ)
-  pub cnf : Option ConfirmationValue
+  pub cnf : Option CnfValue
 
 abbrev said_of : Read ClaimsValue → Read Said
 said_of (Ok claims) = Ok (record {

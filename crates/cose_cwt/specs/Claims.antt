@@ -15,12 +15,12 @@ use Rattle.cose_map.specs.Map.Pairs.{Pair, value_of}
 use Rattle.cose_map.specs.Map.Read.{Read, refuse, check_map, ◌>>=◌}
 use Rattle.cose_cwt.specs.Claims.Form.{claims_table}
 use Rattle.cose_cwt.specs.Claims.Labels.{iss, sub, aud, exp, nbf, iat, cti, cnf}
-use Rattle.cose_cwt.specs.Confirmation.{ConfirmationValue, confirmation_of}
+use Rattle.cose_cwt.specs.Confirmation.{CnfValue, confirmation_of}
 
 -- The pairs of the claims, each known one in its form, and the confirmation.
 pub record ClaimsValue : Type 0 where
   pub pairs : List Pair
-  pub confirmation : Option ConfirmationValue
+  pub confirmation : Option CnfValue
 
 -- A token in a token (RFC 8392 section 7): a tag of COSE (RFC 9052 section 2) or that of CWT, 61 (RFC 8392 section 6).
 abbrev pub is_token_tag : ℕ → Bool
@@ -33,14 +33,14 @@ is_token (Some found) = is_token_tag found.0
 abbrev pub not_nested : Placed → Read Placed
 not_nested item = if is_token (tag_in item) then refuse NestedCwt item else Ok item
 
-abbrev pub some_confirmation : ConfirmationValue → Read (Option ConfirmationValue)
+abbrev pub some_confirmation : CnfValue → Read (Option CnfValue)
 some_confirmation confirmation = Ok (Some confirmation)
 
-abbrev pub confirmation_at : Option Placed → Read (Option ConfirmationValue)
+abbrev pub confirmation_at : Option Placed → Read (Option CnfValue)
 confirmation_at None = Ok None
 confirmation_at (Some value) = confirmation_of value >>= some_confirmation
 
-abbrev pub claims_with : List Pair → Option ConfirmationValue → ClaimsValue
+abbrev pub claims_with : List Pair → Option CnfValue → ClaimsValue
 claims_with pairs confirmation = record { pairs = pairs; confirmation = confirmation }
 
 -- The claims of an item: it must not be a token, it must be a map, then its pairs must have no fault, and last its

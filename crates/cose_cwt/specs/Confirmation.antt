@@ -22,7 +22,7 @@ abbrev pub kid : LabelValue
 kid = number (pos 3)
 
 -- The key and its identifier, each if present.
-pub record ConfirmationValue : Type 0 where
+pub record CnfValue : Type 0 where
   pub key : Option KeyValue
   pub kid : Option (List ℕ)
 
@@ -59,11 +59,11 @@ abbrev pub confirmed_kid : Option Placed → Read (Option (List ℕ))
 confirmed_kid None = Ok None
 confirmed_kid (Some value) = identifier value (bytes_in (look value))
 
-abbrev pub confirmation_with : Option KeyValue → Option (List ℕ) → ConfirmationValue
+abbrev pub confirmation_with : Option KeyValue → Option (List ℕ) → CnfValue
 confirmation_with key kid = record { key = key; kid = kid }
 
 -- Other members are ignored.
-unfoldable pub confirmation_of : Placed → Read ConfirmationValue
+unfoldable pub confirmation_of : Placed → Read CnfValue
 confirmation_of cnf = do
   members ← check_map members_table cnf
   key ← confirmed_key cnf (pair_of encrypted_cose_key members) (value_of cose_key members)

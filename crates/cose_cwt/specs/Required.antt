@@ -1,5 +1,5 @@
 -- The result for a token of which something is required: its claims, the kind of its message and the algorithm.
-use Rattle.std.specs.Prelude.{◌≡◌, ℕ, Bool, List, Option, None, Result, Ok, Err}
+use Rattle.std.specs.Prelude.{◌≡◌, ℕ, List, Option, None, Result, Ok, Err}
 use Rattle.cose_head.specs.declared.algorithm.Alg.{Alg}
 use Rattle.cose_head.specs.declared.kind.Kind.{Kind}
 use Rattle.cose_msg.specs.declared.verdict.Stop.{Stop}
@@ -7,6 +7,7 @@ use Rattle.cose_msg.specs.declared.verdict.Verdict.{Verdict}
 use Rattle.cose_msg.specs.declared.verdict.Verdict.TheVariants.{Authentic, Refused}
 use Rattle.cose_msg.specs.declared.verifier.Verifier.{Verifier}
 use Rattle.cose_msg.specs.Answer.{decided}
+use Rattle.cose_msg.specs.Change.{IntakeChange}
 use Rattle.cose_msg.specs.Message.{Decides, Setting, verdict_of}
 use Rattle.cose_cwt.specs.declared.required.Token.{Token}
 use Rattle.cose_cwt.specs.declared.required.TokenStop.{TokenStop}
@@ -68,7 +69,7 @@ required_stop_in (Err (stops.Cwt stop)) = stop_in (Err stop)
 required_stop_in (Err (stops.Unmet unmet)) = None
 
 -- The effect of a call: that of `verify_cwt`, with an outcome of its own, and the token by the same verdict and payload.
-pub record IsRequiredRun {H D : ℕ} {S : Type 0} {K : _} (setting : Setting) (decides : Decides) (policy : PolicyValue) (requirements : RequirementsValue) (come come_after : Option (List ℕ)) (ended : Bool) (v : Verifier H D S K) (outcome : Required) : Type 0 where
+pub record IsRequiredRun {H D : ℕ} {S : Type 0} {K : _} (setting : Setting) (decides : Decides) (policy : PolicyValue) (requirements : RequirementsValue) (intake : IntakeChange) (v : Verifier H D S K) (outcome : Required) : Type 0 where
   pub cwt : Outcome
-  pub run : IsRun setting decides policy come come_after ended v cwt
+  pub run : IsRun setting decides policy intake v cwt
   pub comes : outcome ≡ required_of D policy requirements run.verdict run.payload

@@ -1,5 +1,5 @@
 -- The result for a token (RFC 8392 section 7.2): the verdict on the message, and then the claims of its payload.
-use Rattle.std.specs.Prelude.{◌≡◌, ◌≤◌, ℕ, Bool, List, [], length, Option, Some, None, Result, Ok, Err, ⊤}
+use Rattle.std.specs.Prelude.{◌≡◌, ◌≤◌, ℕ, Bool, false, List, [], length, Option, Some, None, Result, Ok, Err, ⊤}
 use Rattle.cose_head.specs.declared.refusal.Refusal.{Refusal}
 use Rattle.cose_map.specs.Map.Read.{Read}
 use Rattle.cose_msg.specs.declared.verdict.Stop.{Stop}
@@ -7,7 +7,8 @@ use Rattle.cose_msg.specs.declared.verdict.Verdict.{Verdict}
 use Rattle.cose_msg.specs.declared.verdict.Verdict.TheVariants.{Authentic, Refused}
 use Rattle.cose_msg.specs.declared.verifier.Verifier.{Verifier}
 use Rattle.cose_msg.specs.Answer.{decided}
-use Rattle.cose_msg.specs.Kept.{answered_again, bytes_taken, kept_answer}
+use Rattle.cose_msg.specs.Change.{IntakeChange, sink_from}
+use Rattle.cose_msg.specs.Kept.{HasTaken, answered_again, bytes_taken, kept_answer}
 use Rattle.cose_msg.specs.Message.{Decides, Setting, message, verdict_of, verifying}
 use Rattle.cose_msg.specs.Reading.{Reading}
 use Rattle.cose_msg.specs.Run.{Run, is_intake_stop, is_sink_stop}
@@ -58,11 +59,11 @@ UnlessStopped (Err (stops.Claims refusal)) says = says
 -- The effect of a call. A verifier that had taken nothing has taken these bytes. Its getters give what these bytes
 -- give, its status is the one after these bytes, and it keeps its verdict. The outcome is the result for the token, by
 -- this verdict and the payload among these bytes. The place of a refusal of the claims is in the payload, or at its end.
-pub record IsRun {H D : ℕ} {S : Type 0} {K : _} (setting : Setting) (decides : Decides) (policy : PolicyValue) (come come_after : Option (List ℕ)) (ended : Bool) (v : Verifier H D S K) (outcome : Outcome) : Type 0 where
+pub record IsRun {H D : ℕ} {S : Type 0} {K : _} (setting : Setting) (decides : Decides) (policy : PolicyValue) (intake : IntakeChange) (v : Verifier H D S K) (outcome : Outcome) : Type 0 where
   pub taken : List ℕ
   pub payload : List ℕ
   pub verdict : Result Verdict Stop
-  pub run : Run (verifying H D setting decides) decided [] [] come come_after ended (Some []) (Some payload) verdict taken
+  pub run : Run (verifying H D setting decides) decided [] [] intake (sink_from (Some []) (Some payload)) verdict taken
   pub counted : bytes_taken v ≡ length taken
   pub shows : ShowsReading (to_verify setting) taken v
   pub current : status_in v ≡ status_left verdict (message (rules_of H D (to_verify setting)) taken)
@@ -82,3 +83,18 @@ is_for_intake stop = is_intake_stop stop
 
 abbrev pub is_for_store : Option Stop → Bool
 is_for_store stop = is_sink_stop stop
+
+-- ---- what the calls for tokens say alike
+
+-- Of a verifier that has taken nothing: whatever its setting is, and whatever bytes are known to come.
+abbrev pub WhateverSetting : {H D : ℕ} {S : Type 0} {K : _} → Verifier H D S K → (Setting → Type 0) → Type 0
+WhateverSetting v fact = (setting : Setting) → HasTaken (to_verify setting) [] [] v → fact setting
+
+abbrev pub WhateverBytes : {H D : ℕ} {S : Type 0} {K : _} → Verifier H D S K → Option (List ℕ) → (Setting → List ℕ → Type 0) → Type 0
+WhateverBytes v come fact = (setting : Setting) (bytes : List ℕ) → HasTaken (to_verify setting) [] [] v → come ≡ Some bytes → fact setting bytes
+
+-- Of a verifier that keeps an answer: this is said of the answer, the verifier and the intake are unchanged, and the call doesn't
+-- stop for the intake.
+abbrev pub AnswersAgain : {H D : ℕ} {S : Type 0} {K : _} {F : Type 0} → Verifier H D S K → Verifier H D S K → F → F → Option Stop → (Result Verdict Stop → Type 0) → Type 0
+AnswersAgain v next intake intake_after stop said =
+    (answer : Result Verdict Stop) → kept_answer v ≡ Some answer → said answer × (next ≡ v) × (intake_after ≡ intake) × (is_for_intake stop ≡ false)

@@ -7,7 +7,7 @@ ghost use Rattle.cose_map.specs.Map.View.{pairs_left, seen_by};
 ghost use Rattle.cose_cwt.specs.Claims as spec;
 ghost use Rattle.cose_cwt.specs.Claims.Known.{first_values};
 ghost use Rattle.cose_cwt.specs.Claims.Known.View.{known_value};
-ghost use Rattle.cose_cwt.specs.Confirmation.View.{confirmation_value};
+ghost use Rattle.cose_cwt.specs.Confirmation.View.{cnf_items_value};
 
 pub mod audience;
 mod form;
@@ -17,7 +17,7 @@ pub(crate) mod labels;
 use crate::claims::audience::Auds;
 use crate::claims::form::ClaimsForm;
 use crate::claims::known::Known;
-use crate::confirmation::{Cnf, Confirmation};
+use crate::confirmation::{Cnf, CnfItems};
 use crate::laws::claims_refusals_stand_inside;
 use cose_map::{ItemRef, KeySet, Label, Pairs, Reason, Refusal, check_map, refused};
 
@@ -27,7 +27,7 @@ use cose_map::{ItemRef, KeySet, Label, Pairs, Reason, Refusal, check_map, refuse
 #[derive(Clone, Copy, Debug)]
 pub struct Claims<'a> {
     pub(crate) pairs: Pairs<'a>,
-    confirmation: Option<Confirmation<'a>>,
+    confirmation: Option<CnfItems<'a>>,
     pub(crate) known: Known<'a>,
     /// The known claims are those of the pairs.
     pub ghost found: { known_value known ≡ first_values (pairs_left pairs) },
@@ -51,12 +51,12 @@ fn not_nested<'a>(item: ItemRef<'a>) -> Result<ItemRef<'a>, Refusal>
 }
 
 /// The confirmation, if present.
-fn confirmation_at<'a>(value: Option<ItemRef<'a>>) -> Result<Option<Confirmation<'a>>, Refusal>
-    ensures { seen_by (option_map confirmation_value) result
+fn confirmation_at<'a>(value: Option<ItemRef<'a>>) -> Result<Option<CnfItems<'a>>, Refusal>
+    ensures { seen_by (option_map cnf_items_value) result
         ≡ spec.confirmation_at (option_map placed value.entry) }
 {
     match value {
-        Some(value) => Ok(Some(Confirmation::read(&value)?)),
+        Some(value) => Ok(Some(CnfItems::read(&value)?)),
         None => Ok(None),
     }
 }

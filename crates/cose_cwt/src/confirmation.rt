@@ -8,7 +8,7 @@ ghost use Rattle.cose_map.specs.KeySet.{usable as usable_key};
 ghost use Rattle.cose_map.specs.KeySet.View.{keys};
 ghost use Rattle.cose_map.specs.Map.View.{pair_value, seen_by};
 ghost use Rattle.cose_cwt.specs.Confirmation as spec;
-ghost use Rattle.cose_cwt.specs.Confirmation.View.{cnf_value, confirmation_value, key_in};
+ghost use Rattle.cose_cwt.specs.Confirmation.View.{cnf_items_value, cnf_value, key_in};
 
 use cose_map::{Form, ItemRef, Key, KeySet, Label, Material, Reason, Refusal, check_map, refused};
 
@@ -32,7 +32,7 @@ pub struct Cnf<'a> {
 
 /// A confirmation that was read: the item of its key, and the identifier.
 #[derive(Clone, Copy, Debug)]
-pub(crate) struct Confirmation<'a> {
+pub(crate) struct CnfItems<'a> {
     /// The item of the key.
     pub(crate) key: Option<ItemRef<'a>>,
     /// The identifier.
@@ -100,22 +100,22 @@ fn confirmed_kid<'a>(value: Option<ItemRef<'a>>) -> Result<Option<&'a [u8]>, Ref
     }
 }
 
-impl<'a> Confirmation<'a> {
+impl<'a> CnfItems<'a> {
     /// Reads the confirmation from its item.
     #[tactic(auto, unfolding(crate::specs::Confirmation::confirmation_of))]
-    pub(crate) fn read(cnf: &ItemRef<'a>) -> Result<Confirmation<'a>, Refusal>
-        ensures { seen_by confirmation_value result ≡ spec.confirmation_of (placed cnf.now) }
+    pub(crate) fn read(cnf: &ItemRef<'a>) -> Result<CnfItems<'a>, Refusal>
+        ensures { seen_by cnf_items_value result ≡ spec.confirmation_of (placed cnf.now) }
     {
         let members = check_map(&MembersForm, cnf)?;
         let encrypted = members.pair(&ENCRYPTED_COSE_KEY);
         let key = confirmed_key(cnf, encrypted, members.get(&COSE_KEY))?;
         let kid = confirmed_kid(members.get(&KID))?;
-        Ok(Confirmation { key, kid })
+        Ok(CnfItems { key, kid })
     }
 
     /// The key and its identifier.
     pub(crate) fn cnf(&self) -> Cnf<'a>
-        ensures { cnf_value result ≡ confirmation_value self.now }
+        ensures { cnf_value result ≡ cnf_items_value self.now }
     {
         let key = match self.key {
             Some(item) => Key::read(item.bytes, item.place).ok(),

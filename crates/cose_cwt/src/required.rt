@@ -1,12 +1,11 @@
 //! A token of which something is required, from its bytes to its claims, the kind of its message and the algorithm.
 
-ghost use Rattle.std.specs.Prelude.{◌≡◌, ◌↔◌, ◌≤◌, ◌||◌, ℕ, true, false, List, [], Some, Result, Err, IsErr};
+ghost use Rattle.std.specs.Prelude.{◌≡◌, ◌↔◌, ◌≤◌, true, false, [], Result, Err, IsErr};
 ghost use Rattle.cose_head.specs.declared.refusal.Refusal.{Refusal};
 ghost use Rattle.cose_msg.specs.declared.verdict.Stop.{Stop};
-ghost use Rattle.cose_msg.specs.declared.verdict.Verdict.{Verdict};
-ghost use Rattle.cose_msg.specs.Kept.{HasTaken, SamePurpose, bytes_taken, is_inspecting, is_stopped, kept_answer};
-ghost use Rattle.cose_msg.specs.Message.{Setting};
-ghost use Rattle.cose_msg.specs.Task.{to_verify};
+ghost use Rattle.cose_msg.specs.Change.{intake_change};
+ghost use Rattle.cose_msg.specs.Kept.{SamePurpose, bytes_taken, is_inspecting, is_stopped};
+ghost use Rattle.cose_msg.specs.Run.{FailsIf};
 ghost use Rattle.cose_msg.specs.Verifier.{is_detached, setting_in};
 ghost use Rattle.cose_cwt.specs.Admission.{admitted_claims as admitted_claims_of};
 ghost use Rattle.cose_cwt.specs.Admission.View.{policy_value};
@@ -14,7 +13,7 @@ ghost use Rattle.cose_cwt.specs.Requirements.View.{requirements_value};
 ghost use Rattle.cose_cwt.specs.Required.{IsRequiredRun, IsRequiredToken, RequiredUnlessStopped, if_admitted, required_of, required_stop_in, token_seen};
 ghost use Rattle.cose_cwt.specs.declared.required.TokenStop.{TokenStop};
 ghost use Rattle.cose_cwt.specs.declared.token.CwtStop.{CwtStop};
-ghost use Rattle.cose_cwt.specs.Token.{is_for_intake, is_for_store, of_claims};
+ghost use Rattle.cose_cwt.specs.Token.{AnswersAgain, WhateverBytes, WhateverSetting, is_for_intake, is_for_store, of_claims};
 
 use crate::claims::Claims;
 use crate::laws::claims_refusals_stand_inside;
@@ -141,22 +140,20 @@ pub fn verify_token<
     requires cwt { (setting_in verifier.old).cwt ≡ true }
     requires payload_limit { (setting_in verifier.old).payload_limit ≤ L }
     // What `verify_cwt` does and says of it, and the token by the same verdict and payload.
-    ensures run { (setting : Setting) → HasTaken (to_verify setting) [] [] verifier.old →
+    ensures run { WhateverSetting verifier.old (λ setting.
         IsRequiredRun setting (E.decides ec.now) (policy_value policy.entry.now)
-        (requirements_value requirements.entry.now) (I.to_come intake.old) (I.to_come intake.new)
-        (I.ended intake.new) verifier.new (token_seen result) }
+        (requirements_value requirements.entry.now)
+        (intake_change I.to_come I.ended intake.old intake.new) verifier.new (token_seen result)) }
     // Where the intake's bytes are known to the contract, the result is that of all of them.
-    ensures token { (setting : Setting) (bytes : List ℕ)
-        → HasTaken (to_verify setting) [] [] verifier.old → I.to_come intake.old ≡ Some bytes →
+    ensures token { WhateverBytes verifier.old (I.to_come intake.old) (λ setting bytes.
         RequiredUnlessStopped (token_seen result)
         (IsRequiredToken H D setting (E.decides ec.now) (policy_value policy.entry.now)
-        (requirements_value requirements.entry.now) bytes (token_seen result)) }
+        (requirements_value requirements.entry.now) bytes (token_seen result))) }
     // A verdict or stop that was kept is answered again, and the call doesn't stop for the intake.
-    ensures again { (answer : Result Verdict Stop) → kept_answer verifier.old ≡ Some answer →
-        (token_seen result ≡ required_of D (policy_value policy.entry.now)
-        (requirements_value requirements.entry.now) answer [])
-        × (verifier.new ≡ verifier.old) × (intake.new ≡ intake.old)
-        × (is_for_intake (required_stop_in (token_seen result)) ≡ false) }
+    ensures again { AnswersAgain verifier.old verifier.new intake.old intake.new
+        (required_stop_in (token_seen result)) (λ answer.
+        token_seen result ≡ required_of D (policy_value policy.entry.now)
+        (requirements_value requirements.entry.now) answer []) }
     ensures stopped { (token_seen result ≡ Err (TokenStop.Cwt (CwtStop.Stopped Stop.Again)))
         ↔ (is_stopped verifier.old ≡ true) }
     ensures purpose { SamePurpose verifier.old verifier.new }
@@ -168,8 +165,8 @@ pub fn verify_token<
 
     // The intake has failed exactly where it had failed before, or where this call stops for it. The call never stops
     // for the store.
-    ensures intake_failure { I.has_failed intake.new
-        ≡ (I.has_failed intake.old || is_for_intake (required_stop_in (token_seen result))) }
+    ensures intake_failure { FailsIf I.has_failed intake.old intake.new
+        (is_for_intake (required_stop_in (token_seen result))) }
     ensures store_suffices { is_for_store (required_stop_in (token_seen result)) ≡ false }
 {
     // Laws that the proof cites: a verdict is the same when bytes follow, and the places of refusals of claims.

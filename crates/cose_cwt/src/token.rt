@@ -1,19 +1,18 @@
 //! A token, from its bytes to its claims (RFC 8392 section 7.2).
 
-ghost use Rattle.std.specs.Prelude.{◌≡◌, ◌↔◌, ◌≤◌, ◌||◌, ℕ, true, false, List, [], Some, Result, Err, IsErr};
+ghost use Rattle.std.specs.Prelude.{◌≡◌, ◌↔◌, ◌≤◌, true, false, [], Result, Err, IsErr};
 ghost use Rattle.cose_head.specs.declared.refusal.Refusal.{Refusal};
 ghost use Rattle.cose_map.specs.Map.View.{seen_by};
 ghost use Rattle.cose_msg.specs.declared.verdict.Stop.{Stop};
-ghost use Rattle.cose_msg.specs.declared.verdict.Verdict.{Verdict};
-ghost use Rattle.cose_msg.specs.Kept.{HasTaken, SamePurpose, bytes_taken, is_inspecting, is_stopped, kept_answer};
-ghost use Rattle.cose_msg.specs.Message.{Setting};
-ghost use Rattle.cose_msg.specs.Task.{to_verify};
+ghost use Rattle.cose_msg.specs.Change.{intake_change};
+ghost use Rattle.cose_msg.specs.Kept.{SamePurpose, bytes_taken, is_inspecting, is_stopped};
+ghost use Rattle.cose_msg.specs.Run.{FailsIf};
 ghost use Rattle.cose_msg.specs.Verifier.{is_detached, setting_in};
 ghost use Rattle.cose_cwt.specs.declared.token.CwtStop.{CwtStop};
 ghost use Rattle.cose_cwt.specs.Admission.{admitted_claims as admitted_claims_of};
 ghost use Rattle.cose_cwt.specs.Admission.View.{policy_value};
 ghost use Rattle.cose_cwt.specs.Claims.View.{claims_value};
-ghost use Rattle.cose_cwt.specs.Token.{IsRun, IsToken, UnlessStopped, claims_seen, is_for_intake, is_for_store, stop_in, token_of};
+ghost use Rattle.cose_cwt.specs.Token.{AnswersAgain, IsRun, IsToken, UnlessStopped, WhateverBytes, WhateverSetting, claims_seen, is_for_intake, is_for_store, stop_in, token_of};
 
 use crate::claims::Claims;
 use crate::laws::claims_refusals_stand_inside;
@@ -117,20 +116,18 @@ pub fn verify_cwt<
     requires payload_limit { (setting_in verifier.old).payload_limit ≤ L }
     // The bytes that were taken, what the verifier's getters give of them, the verdict that is kept, the payload among
     // them, and the result for the token by that verdict and that payload.
-    ensures run { (setting : Setting) → HasTaken (to_verify setting) [] [] verifier.old →
-        IsRun setting (E.decides ec.now) (policy_value policy.entry.now) (I.to_come intake.old)
-        (I.to_come intake.new) (I.ended intake.new) verifier.new (claims_seen result) }
+    ensures run { WhateverSetting verifier.old (λ setting.
+        IsRun setting (E.decides ec.now) (policy_value policy.entry.now)
+        (intake_change I.to_come I.ended intake.old intake.new) verifier.new (claims_seen result)) }
     // Where the intake's bytes are known to the contract, the result is that of all of them.
-    ensures token { (setting : Setting) (bytes : List ℕ)
-        → HasTaken (to_verify setting) [] [] verifier.old → I.to_come intake.old ≡ Some bytes →
+    ensures token { WhateverBytes verifier.old (I.to_come intake.old) (λ setting bytes.
         UnlessStopped (claims_seen result)
         (IsToken H D setting (E.decides ec.now) (policy_value policy.entry.now) bytes
-        (claims_seen result)) }
+        (claims_seen result))) }
     // A verdict or stop that was kept is answered again, and the call doesn't stop for the intake.
-    ensures again { (answer : Result Verdict Stop) → kept_answer verifier.old ≡ Some answer →
-        (claims_seen result ≡ token_of D (policy_value policy.entry.now) answer [])
-        × (verifier.new ≡ verifier.old) × (intake.new ≡ intake.old)
-        × (is_for_intake (stop_in (claims_seen result)) ≡ false) }
+    ensures again { AnswersAgain verifier.old verifier.new intake.old intake.new
+        (stop_in (claims_seen result)) (λ answer.
+        claims_seen result ≡ token_of D (policy_value policy.entry.now) answer []) }
     ensures stopped { (claims_seen result ≡ Err (CwtStop.Stopped Stop.Again))
         ↔ (is_stopped verifier.old ≡ true) }
     ensures purpose { SamePurpose verifier.old verifier.new }
@@ -142,8 +139,8 @@ pub fn verify_cwt<
 
     // The intake has failed exactly where it had failed before, or where this call stops for it. The call never stops
     // for the store.
-    ensures intake_failure { I.has_failed intake.new
-        ≡ (I.has_failed intake.old || is_for_intake (stop_in (claims_seen result))) }
+    ensures intake_failure { FailsIf I.has_failed intake.old intake.new
+        (is_for_intake (stop_in (claims_seen result))) }
     ensures store_suffices { is_for_store (stop_in (claims_seen result)) ≡ false }
 {
     // Laws that the proof cites: a verdict is the same when bytes follow, and the places of refusals of claims.

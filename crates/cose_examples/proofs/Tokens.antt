@@ -11,6 +11,7 @@ use Rattle.cose_msg.specs.declared.verdict.Verdict.{Verdict}
 use Rattle.cose_msg.specs.declared.verdict.Verdict.TheVariants.{Authentic, Refused}
 use Rattle.cose_msg.specs.declared.verifier.Verifier.{Verifier}
 use Rattle.cose_msg.specs.Answer.{decided}
+use Rattle.cose_msg.specs.Change.{intake_from, sink_from}
 use Rattle.cose_msg.specs.Message.{Setting, verdict_of, verifying}
 use Rattle.cose_msg.specs.Run.{Run}
 use Rattle.cose_cwt.specs.Admission.{PolicyValue, admitted_claims}
@@ -46,7 +47,7 @@ module _ (keys : List KeyValue) (policy : PolicyValue) (token : List ℕ) (claim
   setting = token_setting keys
 
   by_run : (after : Option (List ℕ)) (ended : Bool) (verdict : Result Verdict Stop) (payload taken : List ℕ) → outcome ≡ token_of 8 policy verdict payload →
-      Run (verifying 1024 8 setting never) decided [] [] (Some token) after ended (Some []) (Some payload) verdict taken → IsAtEnd after → IsJudged keys token
+      Run (verifying 1024 8 setting never) decided [] [] (intake_from (Some token) after ended) (sink_from (Some []) (Some payload)) verdict taken → IsAtEnd after → IsJudged keys token
   by_run None ended (Ok (Authentic kind alg n t)) payload taken comes run end = absurd run.bytes
   by_run (Some rest) ended (Ok (Authentic kind alg n t)) payload taken comes run end =
       let all : token ≡ taken = run.bytes ∙ ap (λ (l : List ℕ). taken ++ l) end ∙ append-nil taken in
@@ -55,7 +56,7 @@ module _ (keys : List KeyValue) (policy : PolicyValue) (token : List ℕ) (claim
   by_run after ended (Ok (Refused refusal)) payload taken comes run end = absurd cc
   by_run after ended (Err stop) payload taken comes run end = absurd cc
 
-  pub admits : {S : Type 0} {K : _} {v : Verifier 1024 8 S K} (after : Option (List ℕ)) (ended : Bool) → IsToken 1024 8 setting never policy token outcome → IsRun setting never policy (Some token) after ended v outcome → IsAtEnd after →
+  pub admits : {S : Type 0} {K : _} {v : Verifier 1024 8 S K} (after : Option (List ℕ)) (ended : Bool) → IsToken 1024 8 setting never policy token outcome → IsRun setting never policy (intake_from (Some token) after ended) v outcome → IsAtEnd after →
       IsAdmitted keys policy token claims
   admits after ended t r end =
       let j = by_run after ended r.verdict r.payload r.taken r.comes r.run end in
@@ -66,11 +67,11 @@ module _ (keys : List KeyValue) (policy : PolicyValue) (token : List ℕ) (claim
       record { kind = j.kind; alg = j.alg; payload = j.payload; judged = j.judged; admitted = admitted_as _ claims comes }
 
 pub admits_in : {S : Type 0} {K : _} {v : Verifier 1024 8 S K} (keys : List KeyValue) (policy : PolicyValue) (token : List ℕ) (claims : ClaimsValue) (under : Setting) (conditions : PolicyValue) (come after : Option (List ℕ)) (ended : Bool) →
-    under ≡ token_setting keys → conditions ≡ policy → come ≡ Some token → IsToken 1024 8 under never conditions token (got claims) → IsRun under never conditions come after ended v (got claims) → IsAtEnd after → IsAdmitted keys policy token claims
+    under ≡ token_setting keys → conditions ≡ policy → come ≡ Some token → IsToken 1024 8 under never conditions token (got claims) → IsRun under never conditions (intake_from come after ended) v (got claims) → IsAtEnd after → IsAdmitted keys policy token claims
 admits_in {v = v} keys policy token claims under conditions come after ended e f told t r end =
     let same : IsToken 1024 8 (token_setting keys) never policy token (got claims) =
     subst (λ (p : PolicyValue). IsToken 1024 8 (token_setting keys) never p token (got claims)) f (subst (λ (s : Setting). IsToken 1024 8 s never conditions token (got claims)) e t) in
-    let ran : IsRun (token_setting keys) never policy (Some token) after ended v (got claims) =
-    subst (λ (c : Option (List ℕ)). IsRun (token_setting keys) never policy c after ended v (got claims)) told
-    (subst (λ (p : PolicyValue). IsRun (token_setting keys) never p come after ended v (got claims)) f (subst (λ (s : Setting). IsRun s never conditions come after ended v (got claims)) e r)) in
+    let ran : IsRun (token_setting keys) never policy (intake_from (Some token) after ended) v (got claims) =
+    subst (λ (c : Option (List ℕ)). IsRun (token_setting keys) never policy (intake_from c after ended) v (got claims)) told
+    (subst (λ (p : PolicyValue). IsRun (token_setting keys) never p (intake_from come after ended) v (got claims)) f (subst (λ (s : Setting). IsRun s never conditions (intake_from come after ended) v (got claims)) e r)) in
     admits keys policy token claims after ended same ran end

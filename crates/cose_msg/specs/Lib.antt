@@ -37,6 +37,7 @@ pub mod Status
 pub mod Feed
 pub mod Kept
 pub mod Shown
+pub mod Change
 pub mod Run
 pub mod Detached
 pub mod Make

@@ -5,6 +5,7 @@ ghost use Rattle.cose_msg.specs.declared.verdict.Inspected.{Inspected};
 ghost use Rattle.cose_msg.specs.declared.verdict.Stop.{Stop};
 ghost use Rattle.cose_msg.specs.declared.verdict.Verdict.{Verdict};
 ghost use Rattle.cose_msg.specs.Answer.{decided};
+ghost use Rattle.cose_msg.specs.Change.{intake_change, sink_change};
 ghost use Rattle.cose_msg.specs.Kept.{answered_again, is_inspecting, is_stopped, kept_answer, kept_inspection, WhateverInspected, WhateverTaken, WhateverVerified, HasTaken, SamePurpose};
 ghost use Rattle.cose_msg.specs.Message.{inspecting, message, verdict_of, verifying, Setting};
 ghost use Rattle.cose_msg.specs.Run.{TakesMessage, FailsIf, Run, inspection, stop_in, stops_for_intake, stops_for_sink, LeftAt};
@@ -34,9 +35,9 @@ pub(crate) fn take_message<'k, const H: usize, const D: usize, K: Keys<'k>, I: I
     requires limit { length chunk.old ≤ 65536 }
     requires goes_on { is_stopped verifier.old ≡ false }
     ensures drive { WhateverTaken verifier.old (λ task before payload_before.
-        TakesMessage task before payload_before (I.to_come intake.old) (I.to_come intake.new)
-        (I.ended intake.new) (S.contents sink.old) (S.contents sink.new)
-        (stop_in result) verifier.new) }
+        TakesMessage task before payload_before
+        (intake_change I.to_come I.ended intake.old intake.new)
+        (sink_change S.contents sink.old sink.new) (stop_in result) verifier.new) }
     ensures stopped { is_stopped verifier.new ≡ is_err result }
     ensures purpose { SamePurpose verifier.old verifier.new }
     ensures once { result ≢ Err Stop.Again }
@@ -112,8 +113,8 @@ pub fn verify<
     ensures run { WhateverVerified verifier.old (λ setting before payload_before.
         (taken : List ℕ)
         × Run (verifying H D setting (E.decides ec.now)) decided before payload_before
-        (I.to_come intake.old) (I.to_come intake.new) (I.ended intake.new)
-        (S.contents sink.old) (S.contents sink.new) result taken
+        (intake_change I.to_come I.ended intake.old intake.new)
+        (sink_change S.contents sink.old sink.new) result taken
         × LeftAt (to_verify setting) (before ++ taken) result verifier.new) }
     // (The payload so far, before the call, is that of the bytes so far.)
     ensures before { WhateverVerified verifier.old (λ setting before payload_before.
@@ -173,8 +174,8 @@ pub fn inspect<'k, const C: usize, const H: usize, const D: usize, K: Keys<'k>, 
     ensures run { WhateverInspected verifier.old (λ setting before payload_before.
         (taken : List ℕ)
         × Run (inspecting H D setting) inspection before payload_before
-        (I.to_come intake.old) (I.to_come intake.new) (I.ended intake.new)
-        (S.contents sink.old) (S.contents sink.new) result taken
+        (intake_change I.to_come I.ended intake.old intake.new)
+        (sink_change S.contents sink.old sink.new) result taken
         × LeftAt (to_inspect setting) (before ++ taken) result verifier.new) }
     // (The payload so far, before the call, is that of the bytes so far.)
     ensures before { WhateverInspected verifier.old (λ setting before payload_before.

@@ -23,7 +23,7 @@ use Rattle.cose_cwt.specs.declared.token.CwtStop.TheVariants as stops
 use Rattle.cose_cwt.specs.Admission.{PolicyValue, admitted_claims}
 use Rattle.cose_cwt.specs.Claims.{ClaimsValue, auds_of, cti_of, exp_of, iat_of, iss_of, nbf_of, sub_of}
 use Rattle.cose_cwt.specs.Claims.View.{claims_value}
-use Rattle.cose_cwt.specs.Confirmation.{ConfirmationValue}
+use Rattle.cose_cwt.specs.Confirmation.{CnfValue}
 use Rattle.cose_cwt.specs.Requirements.{RequirementsValue, met}
 use Rattle.cose_cwt.specs.Token.{Outcome, of_claims, read_as, stop_in}
 use Rattle.cose_text.specs.Diagnostic.{diagnostic_of}
@@ -125,7 +125,7 @@ material_line (elliptic curve x y) = codes "cnf key " ++ decimal curve ++ codes 
 abbrev pub key_line : KeyValue → List ℕ
 key_line key = material_line key.material
 
-abbrev pub confirmation_lines : ConfirmationValue → List ℕ
+abbrev pub confirmation_lines : CnfValue → List ℕ
 confirmation_lines confirmation = where_present key_line confirmation.key ++ where_present (bytes_line (codes "cnf kid")) confirmation.kid
 
 -- The registered claims (RFC 8392 section 3.1) in the order of their labels, and last the confirmation (RFC 8747 section 3.1).

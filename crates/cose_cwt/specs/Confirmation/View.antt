@@ -6,15 +6,15 @@ use Rattle.cose_map.specs.Key.Value.{KeyValue}
 use Rattle.cose_map.specs.Key.View.{contents, key_value}
 use Rattle.cose_map.specs.KeySet.{usable}
 use Rattle.cose_cwt.specs.declared.confirmation.Cnf.{Cnf}
-use Rattle.cose_cwt.specs.declared.confirmation.Confirmation.{Confirmation}
-use Rattle.cose_cwt.specs.Confirmation.{ConfirmationValue, confirmation_with}
+use Rattle.cose_cwt.specs.declared.confirmation.CnfItems.{CnfItems}
+use Rattle.cose_cwt.specs.Confirmation.{CnfValue, confirmation_with}
 
 -- The key that an item is.
 abbrev pub key_in : Option ItemRef → Option KeyValue
 key_in item = option_and_then (λ key. usable (placed key)) item
 
-abbrev pub confirmation_value : Confirmation → ConfirmationValue
-confirmation_value confirmation = confirmation_with (key_in confirmation.key) (option_map contents confirmation.kid)
+abbrev pub cnf_items_value : CnfItems → CnfValue
+cnf_items_value items = confirmation_with (key_in items.key) (option_map contents items.kid)
 
-abbrev pub cnf_value : Cnf → ConfirmationValue
+abbrev pub cnf_value : Cnf → CnfValue
 cnf_value cnf = confirmation_with (option_map key_value cnf.key) (option_map contents cnf.kid)

@@ -4,6 +4,7 @@ ghost use Rattle.std.specs.Prelude.{◌≡◌, ◌≢◌, ◌↔◌, ◌<◌, �
 ghost use Rattle.cose_msg.specs.declared.verdict.Stop.{Stop};
 ghost use Rattle.cose_msg.specs.declared.verdict.Verdict.{Verdict};
 ghost use Rattle.cose_msg.specs.Answer.{decided};
+ghost use Rattle.cose_msg.specs.Change.{intake_change, sink_change};
 ghost use Rattle.cose_msg.specs.Detached.{TakesDetachedPayload, DetachedRun, EitherFails, TakesDetached};
 ghost use Rattle.cose_msg.specs.Kept.{answered_again, is_stopped, kept_answer, WhateverTaken, WhateverVerified, HasTaken, SamePurpose};
 ghost use Rattle.cose_msg.specs.Message.{given, message as reading, verdict_of, verifying, Setting};
@@ -34,9 +35,9 @@ fn take_payload<'k, const H: usize, const D: usize, K: Keys<'k>, P: Intake, S: S
     requires some { 1 ≤ length chunk.old }
     requires wanted { 0 < payload_wanted_in verifier.old }
     ensures brings { WhateverTaken verifier.old (λ task before payload_before.
-        TakesDetachedPayload task before payload_before (P.to_come payload.old) (P.to_come payload.new)
-        (P.ended payload.new) (S.contents sink.old) (S.contents sink.new)
-        (stop_in result) verifier.new) }
+        TakesDetachedPayload task before payload_before
+        (intake_change P.to_come P.ended payload.old payload.new)
+        (sink_change S.contents sink.old sink.new) (stop_in result) verifier.new) }
     ensures stopped { is_stopped verifier.new ≡ is_err result }
     ensures purpose { SamePurpose verifier.old verifier.new }
     ensures once { result ≢ Err Stop.Again }
@@ -89,9 +90,10 @@ fn take_detached<'k, const H: usize, const D: usize, K: Keys<'k>, I: Intake, P: 
     requires goes_on { is_stopped verifier.old ≡ false }
     requires detached { is_detached verifier.old ≡ true }
     ensures takes { WhateverTaken verifier.old (λ task before payload_before.
-        TakesDetached task before payload_before (I.to_come message.old) (I.to_come message.new)
-        (I.ended message.new) (P.to_come payload.old) (P.to_come payload.new) (P.ended payload.new)
-        (S.contents sink.old) (S.contents sink.new) (stop_in result) verifier.new) }
+        TakesDetached task before payload_before
+        (intake_change I.to_come I.ended message.old message.new)
+        (intake_change P.to_come P.ended payload.old payload.new)
+        (sink_change S.contents sink.old sink.new) (stop_in result) verifier.new) }
     ensures stopped { is_stopped verifier.new ≡ is_err result }
     ensures purpose { SamePurpose verifier.old verifier.new }
     ensures once { result ≢ Err Stop.Again }
@@ -155,9 +157,9 @@ pub fn verify_detached<
     ensures run { WhateverVerified verifier.old (λ setting before payload_before.
         (taken : List ℕ) × (came : List ℕ)
         × DetachedRun (verifying H D (given (payload_before ++ came) setting) (E.decides ec.now))
-        before payload_before (I.to_come message.old) (I.to_come message.new) (I.ended message.new)
-        (P.to_come payload.old) (P.to_come payload.new) (P.ended payload.new)
-        (S.contents sink.old) (S.contents sink.new) result taken came
+        before payload_before (intake_change I.to_come I.ended message.old message.new)
+        (intake_change P.to_come P.ended payload.old payload.new)
+        (sink_change S.contents sink.old sink.new) result taken came
         × LeftAt (to_verify (given (payload_before ++ came) setting)) (before ++ taken)
         result verifier.new) }
     // (The payload so far, before the call, is that of the bytes so far.)

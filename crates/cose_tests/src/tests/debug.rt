@@ -57,7 +57,7 @@ fn shows_no_bytes_of_claims(rt: HostRuntime) {
         &rt,
         Claims::read(bytes, 4),
         "Ok(Claims { pairs: Pairs { items: Items { rest: 80 bytes, place: 1, left: 2 } }, \
-         confirmation: Some(Confirmation { key: Some(ItemRef { bytes: 77 bytes, place: 4 }), kid: None }), \
+         confirmation: Some(CnfItems { key: Some(ItemRef { bytes: 77 bytes, place: 4 }), kid: None }), \
          known: Known { iss: None, sub: None, aud: None, exp: None, nbf: None, iat: None, cti: None, \
          cnf: Some(ItemRef { bytes: 79 bytes, place: 2 }) } })",
     );

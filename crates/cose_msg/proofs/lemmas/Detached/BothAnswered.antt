@@ -7,6 +7,7 @@ use Rattle.cose_msg.specs.declared.verdict.Stop.{Stop}
 use Rattle.cose_msg.specs.declared.verdict.Verdict.{Verdict}
 use Rattle.cose_msg.specs.declared.verifier.Verifier.{Verifier}
 use Rattle.cose_msg.specs.Answer.{decided}
+use Rattle.cose_msg.specs.Change.{IntakeChange, SinkChange, intake_from}
 use Rattle.cose_msg.specs.Detached.{DetachedRun, TakesDetached}
 use Rattle.cose_msg.specs.Kept.{HasTaken, answer_kept, verdict_in}
 use Rattle.cose_msg.specs.Laws.{AllAreFair, MessageIsPlacedInside, MessageStays, PayloadStays, VerifyingGoesLast, receiving, then_verified}
@@ -38,11 +39,11 @@ done_wants_none H D task bytes done = ap (λ (r : Reading). r.payload_wanted) (s
 
 -- ---- the result
 
-module _ {H D : ℕ} {S : Type 0} {K : _} {setting : Setting} {s B : List ℕ} {come come_after beside beside_after contents contents_after : Option (List ℕ)} {ended beside_ended : Bool} {v : Verifier H D S K} where
+module _ {H D : ℕ} {S : Type 0} {K : _} {setting : Setting} {s B : List ℕ} {intake of_payload : IntakeChange} {sink : SinkChange} {v : Verifier H D S K} where
   -- A verdict on both lists.
-  pub verdict_on_both : VerifyingGoesLast → MessageIsPlacedInside → AllAreFair → (decides : Decides) (verdict : Verdict) (t : TakesDetached (to_verify setting) s B come come_after ended beside beside_after beside_ended contents contents_after None v) →
+  pub verdict_on_both : VerifyingGoesLast → MessageIsPlacedInside → AllAreFair → (decides : Decides) (verdict : Verdict) (t : TakesDetached (to_verify setting) s B intake of_payload sink None v) →
       then_verified setting.aad decides (message (comparing H D (given (B ++ t.came) setting)) ((s ++ t.taken) ++ [])).answer ≡ decided verdict → Counts verdict v.taken →
-      DetachedRun (verifying H D (given (B ++ t.came) setting) decides) s B come come_after ended beside beside_after beside_ended contents contents_after (Ok verdict) t.taken t.came
+      DetachedRun (verifying H D (given (B ++ t.came) setting) decides) s B intake of_payload sink (Ok verdict) t.taken t.came
   verdict_on_both goes_last inside fair decides verdict t is count =
       let whole : Setting = given (B ++ t.came) setting in
       let rules : Rules = verifying H D whole decides in
@@ -67,18 +68,18 @@ module _ {H D : ℕ} {S : Type 0} {K : _} {setting : Setting} {s B : List ℕ} {
       }
 
   -- A verdict that was kept before.
-  pub kept_on_both : VerifyingGoesLast → MessageIsPlacedInside → AllAreFair → (decides : Decides) (t : TakesDetached (to_verify setting) s B come come_after ended beside beside_after beside_ended contents contents_after None v) (result : Result Verdict Stop) →
-      answer_kept v.stopped (verdict_in v.reader.phase) ≡ Some result → DetachedRun (verifying H D (given (B ++ t.came) setting) decides) s B come come_after ended beside beside_after beside_ended contents contents_after result t.taken t.came
+  pub kept_on_both : VerifyingGoesLast → MessageIsPlacedInside → AllAreFair → (decides : Decides) (t : TakesDetached (to_verify setting) s B intake of_payload sink None v) (result : Result Verdict Stop) →
+      answer_kept v.stopped (verdict_in v.reader.phase) ≡ Some result → DetachedRun (verifying H D (given (B ++ t.came) setting) decides) s B intake of_payload sink result t.taken t.came
   kept_on_both goes_last inside fair decides t result kept =
       let going : answer_kept false (verdict_in v.reader.phase) ≡ Some result = rw t.reads_on.0.goes_on at kept in
       let k : IsKept (verdict_in v.reader.phase) result = kept_by (verdict_in v.reader.phase) result going in
       let st = reads_on_with_verdict k.answer (counted_meaning t.reads_on.0) k.kept_is in
-      let run : DetachedRun (verifying H D (given (B ++ t.came) setting) decides) s B come come_after ended beside beside_after beside_ended contents contents_after (Ok k.answer) t.taken t.came = verdict_on_both goes_last inside fair decides k.answer t (ap (then_verified setting.aad decides) st.0) st.2 in
-      subst (λ (r : Result Verdict Stop). DetachedRun (verifying H D (given (B ++ t.came) setting) decides) s B come come_after ended beside beside_after beside_ended contents contents_after r t.taken t.came) (sym k.result_is) run
+      let run : DetachedRun (verifying H D (given (B ++ t.came) setting) decides) s B intake of_payload sink (Ok k.answer) t.taken t.came = verdict_on_both goes_last inside fair decides k.answer t (ap (then_verified setting.aad decides) st.0) st.2 in
+      subst (λ (r : Result Verdict Stop). DetachedRun (verifying H D (given (B ++ t.came) setting) decides) s B intake of_payload sink r t.taken t.came) (sym k.result_is) run
 
   -- A stop.
-  pub stopped_on_both : VerifyingGoesLast → (decides : Decides) (stop : Stop) (t : TakesDetached (to_verify setting) s B come come_after ended beside beside_after beside_ended contents contents_after (Some stop) v) →
-      DetachedRun (verifying H D (given (B ++ t.came) setting) decides) s B come come_after ended beside beside_after beside_ended contents contents_after (Err stop) t.taken t.came
+  pub stopped_on_both : VerifyingGoesLast → (decides : Decides) (stop : Stop) (t : TakesDetached (to_verify setting) s B intake of_payload sink (Some stop) v) →
+      DetachedRun (verifying H D (given (B ++ t.came) setting) decides) s B intake of_payload sink (Err stop) t.taken t.came
   stopped_on_both goes_last decides stop t =
       let whole : Setting = given (B ++ t.came) setting in
       let same : Alike (verifying H D whole decides) (comparing H D whole) = verifying_alike goes_last H D whole decides in
@@ -112,8 +113,8 @@ all_of_both stays payload_stays rules s B taken came rest left verdict answer no
     ap (λ (t : List ℕ). (message (receiving (B ++ (came ++ left)) rules) t).answer) bytes
     ∙ all_settled (receiving (B ++ (came ++ left)) rules) (stays (receiving (B ++ (came ++ left)) rules)) (s ++ taken) rest (decided verdict) (message (receiving (B ++ (came ++ left)) rules) (s ++ taken)).settled refl (ap (λ (r : Reading). r.answer) same ∙ answer) (λ e. no_rest (sym settled_same ∙ e))
 
-of_both_known : MessageStays → PayloadStays → (H D : ℕ) (setting : Setting) (decides : Decides) {s B : List ℕ} {come beside contents contents_after : Option (List ℕ)} {ended beside_ended : Bool} {verdict : Verdict} (come_after beside_after : Option (List ℕ)) (taken came bytes more : List ℕ)
-    → DetachedRun (verifying H D (given (B ++ came) setting) decides) s B come come_after ended beside beside_after beside_ended contents contents_after (Ok verdict) taken came → come ≡ Some bytes → beside ≡ Some more
+of_both_known : MessageStays → PayloadStays → (H D : ℕ) (setting : Setting) (decides : Decides) {s B : List ℕ} {come beside : Option (List ℕ)} {ended beside_ended : Bool} {sink : SinkChange} {verdict : Verdict} (come_after beside_after : Option (List ℕ)) (taken came bytes more : List ℕ)
+    → DetachedRun (verifying H D (given (B ++ came) setting) decides) s B (intake_from come come_after ended) (intake_from beside beside_after beside_ended) sink (Ok verdict) taken came → come ≡ Some bytes → beside ≡ Some more
     → verdict_of H D (given (B ++ more) setting) decides (s ++ bytes) ≡ decided verdict
 of_both_known stays payload_stays H D setting decides None beside_after taken came bytes more r e f = let none = rw e at r.bytes.0 in absurd none
 of_both_known stays payload_stays H D setting decides (Some rest) None taken came bytes more r e f = let none = rw f at r.bytes.1 in absurd none
@@ -123,8 +124,8 @@ of_both_known stays payload_stays H D setting decides {s} {B} (Some rest) (Some 
     ap (λ (t : List ℕ). verdict_of H D (given (B ++ t) setting) decides (s ++ bytes)) all ∙ ap (λ (t : List ℕ). verdict_of H D (given (B ++ (came ++ left)) setting) decides (s ++ t)) whole
     ∙ all_of_both stays payload_stays (verifying H D setting decides) s B taken came rest left _ r.answer.0.answer (λ open_yet. (r.answer.0.ends.unsettled open_yet).1) (λ some. (r.answer.1.missing some).1)
 
-pub of_both : MessageStays → PayloadStays → (H D : ℕ) (setting : Setting) (decides : Decides) {s B : List ℕ} {come beside contents contents_after : Option (List ℕ)} {ended beside_ended : Bool} (result : Result Verdict Stop) (come_after beside_after : Option (List ℕ)) (taken came bytes more : List ℕ)
-    → DetachedRun (verifying H D (given (B ++ came) setting) decides) s B come come_after ended beside beside_after beside_ended contents contents_after result taken came → come ≡ Some bytes → beside ≡ Some more
+pub of_both : MessageStays → PayloadStays → (H D : ℕ) (setting : Setting) (decides : Decides) {s B : List ℕ} {come beside : Option (List ℕ)} {ended beside_ended : Bool} {sink : SinkChange} (result : Result Verdict Stop) (come_after beside_after : Option (List ℕ)) (taken came bytes more : List ℕ)
+    → DetachedRun (verifying H D (given (B ++ came) setting) decides) s B (intake_from come come_after ended) (intake_from beside beside_after beside_ended) sink result taken came → come ≡ Some bytes → beside ≡ Some more
     → IfOk result (λ verdict. verdict_of H D (given (B ++ more) setting) decides (s ++ bytes) ≡ decided verdict)
 of_both stays payload_stays H D setting decides (Ok verdict) come_after beside_after taken came bytes more r e f = of_both_known stays payload_stays H D setting decides come_after beside_after taken came bytes more r e f
 of_both stays payload_stays H D setting decides (Err stop) come_after beside_after taken came bytes more r e f = tt

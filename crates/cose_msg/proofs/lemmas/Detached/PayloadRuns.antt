@@ -9,6 +9,7 @@ use Rattle.cose_msg.specs.declared.phase.Phase.TheVariants as phases
 use Rattle.cose_msg.specs.declared.reader.Reader.{Reader}
 use Rattle.cose_msg.specs.declared.verdict.Stop.{Stop}
 use Rattle.cose_msg.specs.declared.verifier.Verifier.{Verifier}
+use Rattle.cose_msg.specs.Change.{IntakeChange, SinkChange, intake_from, sink_from}
 use Rattle.cose_msg.specs.Detached.{TakesDetachedPayload}
 use Rattle.cose_msg.specs.Kept.{HasTaken}
 use Rattle.cose_msg.specs.Message.{message}
@@ -140,7 +141,7 @@ module _ {H D : ℕ} {S : Type 0} {K : _} {task : Task} {s B : List ℕ} {v : Ve
 pub brought : {H D : ℕ} {S : Type 0} {K : _} {task : Task} {s B : List ℕ} {beside beside_now beside_after contents contents_now : Option (List ℕ)} {ended ended_after : Bool} {sure sure_now : ℕ} {v : Verifier H D S K} → (a : Bringing task s B beside beside_now ended contents contents_now sure sure_now v)
     → Consumes beside_now beside_after [] → IsAsRead (given_to (B ++ a.came) task) s (B ++ a.came) v → is_open (status_in v) ≡ true
     → (0 < payload_wanted_in v → (ended_after ≡ true) × IsAtEnd beside_after) → (payload_wanted_in v ≡ 0 → 0 < length a.came → ended_after ≡ false)
-    → TakesDetachedPayload task s B beside beside_after ended_after contents contents_now None v
+    → TakesDetachedPayload task s B (intake_from beside beside_after ended_after) (sink_from contents contents_now) None v
 brought {H} {D} {S} {K} {task} {s} {B} {beside} {beside_now} {beside_after} {contents} {contents_now} {ended} {ended_after} {sure} {sure_now} {v} a took r wants missing whole =
     let wanted : (message (rules_of H D (given_to (B ++ a.came) task)) s).payload_wanted ≡ payload_wanted_in v = read_wanted a.reads_on r in
     record {
@@ -162,10 +163,10 @@ brought {H} {D} {S} {K} {task} {s} {B} {beside} {beside_now} {beside_after} {con
     }
 
 -- The intake or the sink has failed.
-pub brings_until : {H D : ℕ} {S : Type 0} {K : _} {task : Task} {s B : List ℕ} {beside beside_after contents contents_after : Option (List ℕ)} {ended : Bool} {stepped next : Verifier H D S K} (stop : Stop) (came : List ℕ)
-    → TakesUntilStop beside beside_after (Some stop) came → length came ≤ stated_of task.setting.source - length B
+pub brings_until : {H D : ℕ} {S : Type 0} {K : _} {task : Task} {s B : List ℕ} {of_payload : IntakeChange} {sink : SinkChange} {stepped next : Verifier H D S K} (stop : Stop) (came : List ℕ)
+    → TakesUntilStop of_payload (Some stop) came → length came ≤ stated_of task.setting.source - length B
     → HasTaken (given_to (B ++ came) task) s (B ++ came) stepped → IsAsRead (given_to (B ++ came) task) s (B ++ came) stepped → is_open (status_in stepped) ≡ true
-    → Grows contents contents_after (Some stop) came → next.taken ≡ stepped.taken → shown_of next ≡ shown_of stepped → TakesDetachedPayload task s B beside beside_after ended contents contents_after (Some stop) next
+    → Grows sink (Some stop) came → next.taken ≡ stepped.taken → shown_of next ≡ shown_of stepped → TakesDetachedPayload task s B of_payload sink (Some stop) next
 brings_until stop came bytes within reads_on r wants grows counted shown = record {
   came = came;
   bytes = bytes;

@@ -15,6 +15,7 @@ use Rattle.cose_msg.specs.declared.reader.Reader.{Reader}
 use Rattle.cose_msg.specs.declared.verdict.Stop.{Stop}
 use Rattle.cose_msg.specs.declared.verdict.Stop.TheVariants as stops
 use Rattle.cose_msg.specs.declared.verifier.Verifier.{Verifier}
+use Rattle.cose_msg.specs.Change.{intake_from, sink_from}
 use Rattle.cose_msg.specs.Intake.{KeepsOrForgets, TakesInAll, is_end, marks}
 use Rattle.cose_msg.specs.Kept.{HasTaken, answer_kept}
 use Rattle.cose_msg.specs.Laws.{MessageIsInspectedWithin, VerifiedWithin, payload_inside}
@@ -222,7 +223,7 @@ shown_of_all {H} {D} task v bytes all same h = subst (λ (b : List ℕ). ShowsRe
 pub concluded : {H D : ℕ} {S : Type 0} {K : _} {task : Task} {s B : List ℕ} {come come_now come_after contents contents_now : Option (List ℕ)} {ended ended_after : Bool} {sure sure_now : ℕ} {v : Verifier H D S K} → (a : Along task s B come come_now ended contents contents_now sure sure_now v) →
     Consumes come_now come_after [] → (message (rules_of H D task) ((s ++ a.taken) ++ [])).so_far.payload ≡ B ++ a.part → shown_of v ≡ shown_in task (message (rules_of H D task) ((s ++ a.taken) ++ [])) →
     ((message (rules_of H D task) ((s ++ a.taken) ++ [])).settled ≡ false → (ended_after ≡ true) × IsAtEnd come_after) → ((message (rules_of H D task) ((s ++ a.taken) ++ [])).settled ≡ true → 0 < length a.taken → ended_after ≡ false) →
-    TakesMessage task s B come come_after ended_after contents contents_now None v
+    TakesMessage task s B (intake_from come come_after ended_after) (sink_from contents contents_now) None v
 concluded {H} {D} {S} {K} {task} {s} {B} {come} {come_now} {come_after} {contents} {contents_now} {ended} {ended_after} {sure} {sure_now} {v} a took so_far shown not_yet once =
     let bytes : List ℕ = s ++ a.taken in
     let here : message (rules_of H D task) (bytes ++ []) ≡ message (rules_of H D task) bytes = without_more H D task bytes in
@@ -243,7 +244,7 @@ concluded {H} {D} {S} {K} {task} {s} {B} {come} {come_now} {come_after} {content
 -- A failed intake.
 pub stopped_by_intake : {H D : ℕ} {S : Type 0} {K : _} {task : Task} {s B : List ℕ} {come come_now come_after contents contents_now : Option (List ℕ)} {ended ended_after : Bool} {sure sure_now : ℕ} {v next : Verifier H D S K} → (a : Along task s B come come_now ended contents contents_now sure sure_now v) →
     KeepsOrForgets come_now come_after → (message (rules_of H D task) ((s ++ a.taken) ++ [])).so_far.payload ≡ B ++ a.part → shown_of v ≡ shown_in task (message (rules_of H D task) ((s ++ a.taken) ++ [])) → (message (rules_of H D task) ((s ++ a.taken) ++ [])).settled ≡ false →
-    next.taken ≡ v.taken → shown_of next ≡ shown_of v → TakesMessage task s B come come_after ended_after contents contents_now (Some stops.Intake) next
+    next.taken ≡ v.taken → shown_of next ≡ shown_of v → TakesMessage task s B (intake_from come come_after ended_after) (sink_from contents contents_now) (Some stops.Intake) next
 stopped_by_intake {H} {D} {S} {K} {task} {s} {B} {come} {come_now} {come_after} {contents} {contents_now} {ended} {ended_after} {sure} {sure_now} {v} {next} a keeps so_far shown unsettled_yet count same =
     let bytes : List ℕ = s ++ a.taken in
     let here : message (rules_of H D task) (bytes ++ []) ≡ message (rules_of H D task) bytes = without_more H D task bytes in
@@ -264,7 +265,7 @@ stopped_by_intake {H} {D} {S} {K} {task} {s} {B} {come} {come_now} {come_after} 
 pub stopped_by_sink : {H D : ℕ} {S : Type 0} {K : _} {task : Task} {s B : List ℕ} {come come_now come_after contents contents_now contents_after : Option (List ℕ)} {ended ended_after : Bool} {sure sure_now : ℕ} {v next : Verifier H D S K} (stepped : Verifier H D S K) (piece : List ℕ) → (a : Along task s B come come_now ended contents contents_now sure sure_now v) →
     Consumes come_now come_after piece → ((more : List ℕ) → length more < length piece → (message (rules_of H D task) ((s ++ a.taken) ++ more)).settled ≡ false) → (message (rules_of H D task) ((s ++ a.taken) ++ piece)).settled ≡ false → in_payload v.reader.phase ≡ true →
     (message (rules_of H D task) (((s ++ a.taken) ++ piece) ++ [])).so_far.payload ≡ grown v.reader.phase (B ++ a.part) piece → shown_of stepped ≡ shown_in task (message (rules_of H D task) (((s ++ a.taken) ++ piece) ++ [])) → AppendsFront contents_now contents_after piece →
-    stepped.taken ≡ length ((s ++ a.taken) ++ piece) → next.taken ≡ stepped.taken → shown_of next ≡ shown_of stepped → TakesMessage task s B come come_after ended_after contents contents_after (Some stops.Sink) next
+    stepped.taken ≡ length ((s ++ a.taken) ++ piece) → next.taken ≡ stepped.taken → shown_of next ≡ shown_of stepped → TakesMessage task s B (intake_from come come_after ended_after) (sink_from contents contents_after) (Some stops.Sink) next
 stopped_by_sink {H} {D} {S} {K} {task} {s} {B} {come} {come_now} {come_after} {contents} {contents_now} {contents_after} {ended} {ended_after} {sure} {sure_now} {v} {next} stepped piece a took within unsettled_yet in_it so_far shown front counted count same =
     let bytes : List ℕ = (s ++ a.taken) ++ piece in
     let regrouped : bytes ≡ s ++ (a.taken ++ piece) = append_assoc s a.taken piece in

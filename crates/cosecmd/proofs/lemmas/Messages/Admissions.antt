@@ -8,6 +8,7 @@ use Rattle.cose_msg.specs.declared.verdict.Verdict.{Verdict}
 use Rattle.cose_msg.specs.declared.verdict.Verdict.TheVariants.{Authentic, Refused}
 use Rattle.cose_msg.specs.declared.verifier.Verifier.{Verifier}
 use Rattle.cose_msg.specs.Answer.{Answer, decided}
+use Rattle.cose_msg.specs.Change.{intake_from, sink_from}
 use Rattle.cose_msg.specs.Laws.{VerdictStays}
 use Rattle.cose_msg.specs.Message.{Decides, Setting, verdict_of, verifying}
 use Rattle.cose_msg.specs.Run.{Run}
@@ -99,7 +100,7 @@ module _ (header nesting : ℕ) where
       (rest : List ℕ) × (come_after ≡ Some rest) × (input_token header nesting setting decides policy requirements bytes ≡ required_then requirements (trailing_refusal rest count) claims)
 
   left_by : VerdictStays → (setting : Setting) (decides : Decides) (policy : PolicyValue) (requirements : RequirementsValue) (come_after : Option (List ℕ)) (ended : Bool) (verdict : Result Verdict Stop) (taken payload bytes : List ℕ) (claims : ClaimsValue) →
-      Run (verifying header nesting setting decides) decided [] [] (Some bytes) come_after ended (Some []) (Some payload) verdict taken → Ok claims ≡ token_of nesting policy verdict payload →
+      Run (verifying header nesting setting decides) decided [] [] (intake_from (Some bytes) come_after ended) (sink_from (Some []) (Some payload)) verdict taken → Ok claims ≡ token_of nesting policy verdict payload →
       IsToken header nesting setting decides policy bytes (Ok claims) → IsLeft setting decides policy requirements bytes come_after (length taken) claims
   left_by stays setting decides policy requirements come_after ended (Err stop) taken payload bytes claims run comes token = absurd cc
   left_by stays setting decides policy requirements None ended (Ok verdict) taken payload bytes claims run comes token = absurd run.bytes
@@ -114,10 +115,10 @@ module _ (header nesting : ℕ) where
       (rest, refl, admitted_token token.verdict rest taken bytes policy requirements (read_as header nesting setting decides bytes).so_far.payload (read_as header nesting setting decides bytes).answer claims whole counted token.judged token.comes)
 
   pub left_of_run : VerdictStays → (setting : Setting) (decides : Decides) (policy : PolicyValue) (requirements : RequirementsValue) (come come_after : Option (List ℕ)) (ended : Bool) {S : Type 0} {K : _} (v : Verifier header nesting S K) (bytes : List ℕ) (claims : ClaimsValue) (count : ℕ) →
-      IsRun setting decides policy come come_after ended v (Ok claims) → IsToken header nesting setting decides policy bytes (Ok claims) → come ≡ Some bytes → count ≡ v.taken →
+      IsRun setting decides policy (intake_from come come_after ended) v (Ok claims) → IsToken header nesting setting decides policy bytes (Ok claims) → come ≡ Some bytes → count ≡ v.taken →
       IsLeft setting decides policy requirements bytes come_after count claims
   left_of_run stays setting decides policy requirements come come_after ended v bytes claims count run token told counts =
-      let all = subst (λ (old : Option (List ℕ)). Run (verifying header nesting setting decides) decided [] [] old come_after ended (Some []) (Some run.payload) run.verdict run.taken) told run.run in
+      let all = subst (λ (old : Option (List ℕ)). Run (verifying header nesting setting decides) decided [] [] (intake_from old come_after ended) (sink_from (Some []) (Some run.payload)) run.verdict run.taken) told run.run in
       subst (λ n. IsLeft setting decides policy requirements bytes come_after n claims) (sym (counts ∙ run.counted))
       (left_by stays setting decides policy requirements come_after ended run.verdict run.taken run.payload bytes claims all run.comes token)
 

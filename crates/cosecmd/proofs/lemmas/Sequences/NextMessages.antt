@@ -5,6 +5,7 @@ use Rattle.cose_head.specs.Head.{bare_head}
 use Rattle.cose_msg.specs.declared.verdict.Verdict.{Verdict}
 use Rattle.cose_msg.specs.declared.verifier.Verifier.{Verifier}
 use Rattle.cose_msg.specs.Answer.{decided}
+use Rattle.cose_msg.specs.Change.{SinkChange, intake_from}
 use Rattle.cose_msg.specs.Kept.{HasTaken, is_inspecting}
 use Rattle.cose_msg.specs.Laws.{MessageEndsTruncated}
 use Rattle.cose_msg.specs.Message.{Decides, Setting, message, verifying}
@@ -49,9 +50,9 @@ pub record Took (rules : Rules) (bytes : List ℕ) (come_after : Option (List �
 at_end : (come : Option (List ℕ)) (rest : List ℕ) → come ≡ Some rest → IsAtEnd come → rest ≡ []
 at_end come rest is ends = subst IsAtEnd is ends
 
-pub took : MessageEndsTruncated → (rules : Rules) (come come_after : Option (List ℕ)) (ended : Bool) (contents contents_after : Option (List ℕ)) (verdict : Verdict) (taken bytes : List ℕ) → come ≡ Some bytes →
-    Run rules decided [] [] come come_after ended contents contents_after (Ok verdict) taken → Took rules bytes come_after taken verdict
-took truncated rules come come_after ended contents contents_after verdict taken bytes known run =
+pub took : MessageEndsTruncated → (rules : Rules) (come come_after : Option (List ℕ)) (ended : Bool) (sink : SinkChange) (verdict : Verdict) (taken bytes : List ℕ) → come ≡ Some bytes →
+    Run rules decided [] [] (intake_from come come_after ended) sink (Ok verdict) taken → Took rules bytes come_after taken verdict
+took truncated rules come come_after ended sink verdict taken bytes known run =
     let left = left_of_input come come_after bytes taken known run.bytes in record {
       rest = left.0;
       left = left.1;

@@ -6,6 +6,7 @@ use Rattle.cose_msg.specs.declared.verdict.Verdict.{Verdict}
 use Rattle.cose_msg.specs.declared.verdict.Verdict.TheVariants.{Authentic, Refused}
 use Rattle.cose_msg.specs.declared.verifier.Verifier.{Verifier}
 use Rattle.cose_msg.specs.Answer.{decided}
+use Rattle.cose_msg.specs.Change.{intake_from, sink_from}
 use Rattle.cose_msg.specs.Kept.{bytes_taken}
 use Rattle.cose_msg.specs.Laws.{MessageEndsTruncated}
 use Rattle.cose_msg.specs.Message.{Decides, Setting, verifying}
@@ -52,7 +53,7 @@ pub record TookToken (header nesting : ℕ) (setting : Setting) (decides : Decid
   pub whole : is_read_to_its_end outcome ≡ is_whole (decided verdict)
 
 pub took_token : MessageEndsTruncated → (header nesting : ℕ) (setting : Setting) (decides : Decides) (policy : PolicyValue) (requirements : RequirementsValue) (come come_after : Option (List ℕ)) (ended : Bool) {S : Type 0} {K : _} (v : Verifier header nesting S K) (outcome : Outcome) (count : ℕ) (bytes : List ℕ) →
-    come ≡ Some bytes → IsRun setting decides policy come come_after ended v outcome → count ≡ bytes_taken v → stopped_in (if_admitted requirements outcome) ≡ None →
+    come ≡ Some bytes → IsRun setting decides policy (intake_from come come_after ended) v outcome → count ≡ bytes_taken v → stopped_in (if_admitted requirements outcome) ≡ None →
     TookToken header nesting setting decides policy requirements bytes come_after count outcome
 took_token truncated header nesting setting decides policy requirements come come_after ended v outcome count bytes known run counts unstopped = go run.verdict refl
   where
@@ -62,8 +63,8 @@ took_token truncated header nesting setting decides policy requirements come com
         let some : Some stop ≡ None = sym (ap (λ (o : Outcome). stopped_in (if_admitted requirements o)) stopped) ∙ unstopped in
         absurd cc
     go (Ok verdict) is =
-        let its_run = subst (λ (r : Result Verdict Stop). Run (verifying header nesting setting decides) decided [] [] come come_after ended (Some []) (Some run.payload) r run.taken) is run.run in
-        let these = took truncated (verifying header nesting setting decides) come come_after ended (Some []) (Some run.payload) verdict run.taken bytes known its_run in
+        let its_run = subst (λ (r : Result Verdict Stop). Run (verifying header nesting setting decides) decided [] [] (intake_from come come_after ended) (sink_from (Some []) (Some run.payload)) r run.taken) is run.run in
+        let these = took truncated (verifying header nesting setting decides) come come_after ended (sink_from (Some []) (Some run.payload)) verdict run.taken bytes known its_run in
         let comes : outcome ≡ token_of nesting policy (Ok verdict) run.payload = run.comes ∙ ap (λ (r : Result Verdict Stop). token_of nesting policy r run.payload) is in
         let payload : (read_as header nesting setting decides run.taken).so_far.payload ≡ run.payload = its_run.payload.1 ∙ sym its_run.payload.2 in
         record {

@@ -15,7 +15,7 @@ returns-then-taken-eq0-clause-part g c = λ bytes e.
     let rules = verifying g.row.H g.row.D (setting_in made) (vouching (option_map contents c.args.self.now.vouch.word)) in
     let has = anew made c.reset.new.self c.args.self.now.verifies c.reset.ensures.none_taken in
     let run = c.in-Ok.ensures.run (setting_in made) [] [] has in
-    let these = took c.settled_stays.ensures.truncated rules _ _ _ _ _ c.in-Ok.verdict run.0 bytes e run.1 in
+    let these = took c.settled_stays.ensures.truncated rules _ _ _ _ c.in-Ok.verdict run.0 bytes e run.1 in
     none_left rules bytes _ run.0 c.in-Ok.verdict c.taken-taken.result these (c.taken-taken.ensures.value ∙ run.2.0) c.if-taken-eq0.true
 
 pub returns-in-Ok-reply_of-clause-part : goal.returns-in-Ok-reply_of-clause-part
@@ -25,7 +25,7 @@ returns-in-Ok-reply_of-clause-part g c = λ bytes e.
     let rules = verifying g.row.H g.row.D (setting_in made) decides in
     let has = anew made c.reset.new.self c.args.self.now.verifies c.reset.ensures.none_taken in
     let run = c.in-Ok.ensures.run (setting_in made) [] [] has in
-    let these = took c.settled_stays.ensures.truncated rules _ _ _ _ _ c.in-Ok.verdict run.0 bytes e run.1 in
+    let these = took c.settled_stays.ensures.truncated rules _ _ _ _ c.in-Ok.verdict run.0 bytes e run.1 in
     let some : 0 < c.taken-taken.result = omega (arith, c.if-taken-eq0.false) in
     next_found rules _ bytes _ run.0 c.in-Ok.verdict _ these (c.taken-taken.ensures.value ∙ run.2.0) some c.is_read_whole-whole.ensures
     (subst (λ (o : Output). Says o c.in-Ok-reply_of.reply) (verdict_alone g.row.H g.row.D (setting_in made) decides run.0 c.in-Ok.verdict these.answer these.counted) c.in-Ok-reply_of.ensures.says)
