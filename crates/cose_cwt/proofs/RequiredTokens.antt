@@ -15,7 +15,7 @@ use Rattle.cose_msg.specs.Change.{intake_from, sink_from}
 use Rattle.cose_msg.specs.Laws.{MessageStays}
 use Rattle.cose_msg.specs.Message.{Decides, Setting, verifying}
 use Rattle.cose_msg.specs.Kept.{answer_kept}
-use Rattle.cose_msg.specs.Run.{Run, stop_in as stop_of, stops_for_intake, stops_for_sink}
+use Rattle.cose_msg.specs.Run.{Run, stops_for_intake, stops_for_sink}
 use Rattle.cose_cwt.specs.declared.required.TokenStop.TheVariants as stops
 use Rattle.cose_cwt.specs.declared.requirements.Unmet.{Unmet}
 use Rattle.cose_cwt.specs.declared.token.CwtStop.TheVariants as cwt_stops

@@ -1,4 +1,4 @@
-use Rattle.std.proofs.Common.{◌∙◌, sym, refl}
+use Rattle.std.proofs.Common.{◌∙◌, sym}
 use Rattle.cose_cwt.proofs.laws.stated_token_is_token.Goals as goal
 
 pub returns-clause-mac : goal.returns-clause-mac

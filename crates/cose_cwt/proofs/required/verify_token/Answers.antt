@@ -1,5 +1,4 @@
-use Rattle.std.proofs.Common.{◌≡◌, ◌∙◌, ◌≤◌, ℕ, Bool, [], Some, length, refl, subst, sym, ap, arith}
-use Rattle.std.specs.Prelude.{◌||◌}
+use Rattle.std.proofs.Common.{◌≡◌, ◌∙◌, ◌≤◌, ℕ, Bool, [], Some, length, refl, subst, sym, arith}
 use Rattle.cose_msg.specs.declared.store.Store.{Store}
 use Rattle.cose_msg.specs.Kept.{HasTaken, kept_answer}
 use Rattle.cose_msg.specs.Store.{unless_dropped}

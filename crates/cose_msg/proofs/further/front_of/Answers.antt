@@ -1,4 +1,4 @@
-use Rattle.std.proofs.Common.{refl, ◌∙◌}
+use Rattle.std.proofs.Common.{refl}
 use Rattle.cose_msg.specs.Message.{structure}
 use Rattle.cose_msg.proofs.lemmas.Fronts.{short_context}
 use Rattle.cose_msg.proofs.further.front_of.Goals as goal

@@ -1,12 +1,12 @@
 -- The key of a message that is whole stands at the place that is given for what its buckets ask.
-use Rattle.std.proofs.Common.{◌≡◌, ◌∙◌, ℕ, ℤ, List, Option, Some, None, Result, Ok, Err, refl, ap}
+use Rattle.std.proofs.Common.{◌≡◌, ◌∙◌, ℤ, Option, Some, None, Result, Ok, Err, ap}
 use Rattle.cose_head.specs.declared.algorithm.Alg.{Alg}
 use Rattle.cose_head.specs.declared.reason.Reason.{Reason}
 use Rattle.cose_head.specs.Algorithm.{algorithm_numbered}
 use Rattle.cose_map.specs.Choice.{chosen}
 use Rattle.cose_map.specs.Key.Value.{KeyValue}
 use Rattle.cose_map.specs.Laws.Place as map
-use Rattle.cose_msg.specs.Answer.{Chosen, Whole}
+use Rattle.cose_msg.specs.Answer.{Chosen}
 use Rattle.cose_msg.specs.Message.{as_choice, past_chosen, question_of, with_algorithm}
 use Rattle.cose_msg.specs.Naming.{ChosenStandsThere}
 

@@ -1,4 +1,4 @@
-use Rattle.std.proofs.Common.{◌≡◌, ◌∙◌, ◌==◌, Bool, false, List, ap, length, map, refl, string_bytes, subst, sym, true, ℕ}
+use Rattle.std.proofs.Common.{◌≡◌, ◌∙◌, ◌==◌, false, List, length, refl, string_bytes, subst, sym, true, ℕ}
 use Rattle.std.proofs.lemmas.Result.{IfOk-weaker}
 use Rattle.cosecmd.specs.PayloadTo.{AsksToVerify}
 use Rattle.cosecmd.specs.Under.{under_of}

@@ -1,5 +1,5 @@
 -- A request whose fields are the values of the options asks for what is printed for these options.
-use Rattle.std.proofs.Common.{◌≡◌, ◌≢◌, ◌∙◌, Bool, true, false, ℕ, List, Option, Some, None, ap, subst, sym, refl, option_map, codes}
+use Rattle.std.proofs.Common.{◌≡◌, ◌≢◌, ◌∙◌, true, false, ℕ, List, Option, Some, None, ap, subst, sym, refl, option_map, codes}
 use Rattle.std.specs.Prelude.{string_bytes}
 use Rattle.clap.specs.Matches.{subcommand_name_of}
 use Rattle.clap.specs.Simple.{subcommand_rows_of}

@@ -1,5 +1,5 @@
 -- A request that keeps a payload in a new file, and what becomes of the file.
-use Rattle.std.proofs.Common.{◌≡◌, ℕ, ◌<◌, true, false, List, Option, Some, None, Bor, sym, ap, subst, ◌∙◌}
+use Rattle.std.proofs.Common.{◌≡◌, ℕ, true, false, List, Option, Some, None, Bor, sym, ap, subst, ◌∙◌}
 use Rattle.clap.specs.Walk.{Text}
 use Rattle.cosecmd.specs.NewFile.{Made}
 use Rattle.cosecmd.specs.Arguments.{asked_for, payload_for}

@@ -1,6 +1,6 @@
 -- The record of the new file of the process, where it isn't kept.
 use Rattle.std.proofs.Common.{◌≡◌, Bool, Option, Some, None, Result, Ok, Err, option_map, refl}
-use Rattle.std.specs.Prelude.{IfErr, string_bytes}
+use Rattle.std.specs.Prelude.{IfErr}
 use Rattle.cosecmd.specs.HostFile.{made_file}
 use Rattle.cosecmd.specs.NewFile.{IsSettled}
 use Rattle.cosecmd.specs.declared.host_file.HostFile.{HostFile}

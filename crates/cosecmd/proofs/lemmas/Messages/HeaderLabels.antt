@@ -1,5 +1,5 @@
 -- The labels of `--header`, and the reply with the lines of header parameters.
-use Rattle.std.proofs.Common.{◌≡◌, ◌∙◌, ℕ, true, false, List, [], ◌∷◌, ◌++◌, Option, Result, Ok, Err, refl, sym, ap, arith, length}
+use Rattle.std.proofs.Common.{◌≡◌, ◌∙◌, ℕ, true, false, List, [], ◌∷◌, ◌++◌, Option, Result, Ok, Err, refl, ap, arith, length}
 use Rattle.std.specs.Prelude.{IfOk, map, string_bytes, ◌==◌}
 use Rattle.std.proofs.lemmas.Bool.{eqb-true}
 use Rattle.cose_head.specs.declared.algorithm.Alg.{Alg}
@@ -8,7 +8,7 @@ use Rattle.cose_map.specs.Map.Pairs.{Pair}
 use Rattle.cose_msg.specs.declared.verdict.Verdict.{Verdict}
 use Rattle.cose_msg.specs.declared.verdict.Verdict.TheVariants.{Authentic}
 use Rattle.cosecmd.specs.Headers.{parameter_lines}
-use Rattle.cosecmd.specs.Printed.{Output, Says, headed_under, said_of, said_with, verified_for}
+use Rattle.cosecmd.specs.Printed.{Says, headed_under, said_of, said_with, verified_for}
 use Rattle.cosecmd.specs.Under.{Under}
 use Rattle.cosecmd.specs.declared.reply.Reply.{Reply}
 use Rattle.cosecmd.proofs.lemmas.Messages.MessageReplies.{says_equal}

@@ -1,6 +1,5 @@
 use Rattle.std.proofs.Common.{map, option_map, string_bytes}
 use Rattle.cose_map.specs.Bucket.View.{bucket_pairs}
-use Rattle.cosecmd.specs.Printed.{Says, said_of}
 use Rattle.cosecmd.proofs.lemmas.Messages.HeaderLabels.{says_more}
 use Rattle.cosecmd.proofs.answer.headers.headed_reply.Goals as goal
 
