@@ -140,7 +140,7 @@ PLACES = {
         Places(
             "algorithm for signatures",
             of_name,
-            "README.md docs/COMMANDS.md docs/DECISIONS.md docs/USING.md docs/PYTHON.md packaging/help_notes.md "
+            "README.md docs/COMMANDS.md docs/DECISIONS.md docs/USING.md docs/PYTHON.md "
             "crates/cosecmd/src/commands.rt crates/cosecmd/src/main.rt crates/cose_mac/src/lib.rt crates/cose_msg/src/lib.rt "
             "crates/cose_cwt/src/lib.rt bindings/rust/src/lib.rs bindings/rust/src/sign_input.rs "
             "bindings/python/src/cose/_arguments.py bindings/python/src/cose/signatures.py bindings/go/cose.go",
