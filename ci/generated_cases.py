@@ -9,12 +9,13 @@ import random
 from dataclasses import dataclass, replace
 from typing import NamedTuple
 
+import option_rows
 import second_program
 import second_reading as reading
 
 COMMANDS = {"verify": 8, "cwt": 9, "show": 3, "digest": 2, "keys": 2, "make": 5}
 # the commands that may restrict their keys
-RESTRICTED = ("verify", "cwt", "digest")
+RESTRICTED = tuple(it.name for it in option_rows.commands() if it.option("least-secret"))
 # how often a head is wider than it has to be, and how often a part that is made with slips has one: one of these rates
 WIDE_RATES = (0, 0, 0.05, 0.5)
 SLIP_RATES = (0.05, 0.1, 0.2, 0.4)
