@@ -13,7 +13,7 @@ SOURCES = TOP / "crates" / "cosecmd" / "src"
 HINTS = ("advice", "argument_advice", "cause", "hints", "key_hints", "main", "noted_files", "streams", "text_advice")
 # how a source names what: in a text, in a call, or as a value of its own with a dash in it
 NAMED = {
-    "option": r'--([a-z][a-z-]*)|(?:argument_of|has_printed)\((?:"fault line ", )?"([a-z-]+)"|option == "([a-z-]+)"|"([a-z]+-[a-z-]+)"',
+    "option": r'--([a-z][a-z-]*)|(?:argument_of|has_printed)\((?:"fault line ", )?"([^" ]+)"|option == "([^"]+)"|"([a-z]+-[a-z-]+)"',
     "command": r'is_of\("(\w+)"|Some\(&"(\w+)"\)|`(\w+)`|`(?:cosecmd )?(\w+) --',
     "value": r'has_argument\("(\w+)"',
 }

@@ -3,6 +3,7 @@ their numbers, which commands/building.rt has."""
 import json
 import pathlib
 import re
+import sys
 from typing import Dict, List, NamedTuple, Tuple
 
 TOP = pathlib.Path(__file__).resolve().parent.parent
@@ -39,7 +40,7 @@ class Command(NamedTuple):
 
 
 def fail(text):
-    raise ValueError(f"{ROWS.relative_to(TOP)}: {text}")
+    sys.exit(f"{ROWS.relative_to(TOP)}: {text}")
 
 
 def texts_in(source):
