@@ -53,7 +53,8 @@ def whole_lists():
 def faults():
     """What the hints say otherwise than the rows."""
     for name in HINTS:
-        yield from (f"{name}.rt of cosecmd names the {kind} {it}, and there is none" for kind, it in unknown_names(code_of(SOURCES / f"{name}.rt")))
+        unknown = unknown_names(code_of(SOURCES / f"{name}.rt"))
+        yield from (f"{name}.rt of cosecmd names the {kind} {it}, and there is none" for kind, it in unknown)
     for name, pattern, wanted in whole_lists():
         listed = set(re.findall(r'"([a-z0-9-]+)"', re.search(pattern, code_of(SOURCES / f"{name}.rt"), re.S)[1]))
         if listed != set(wanted):

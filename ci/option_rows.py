@@ -9,6 +9,8 @@ from typing import Dict, List, NamedTuple, Tuple
 TOP = pathlib.Path(__file__).resolve().parent.parent
 ROWS = TOP / "crates" / "cosecmd" / "src" / "commands.rt"
 RANGES = ROWS.with_suffix("") / "building.rt"
+# how the range of a kind of numbers is said to clap
+RANGE = r"Number::(\w+) => arg\.value_parser\(value_parser!\((\w+)\)(?:\.range\((\d+)\.\.(=?)(\w*)\))?\)"
 # what the types of numbers hold: the least, and the one after the greatest
 TYPES = {"i64": (-(2**63), 2**63), "u8": (0, 2**8), "u32": (0, 2**32), "u64": (0, 2**64)}
 
@@ -71,7 +73,7 @@ def ranges():
     source = RANGES.read_text()
     constants = {name: 1 << int(bits) for name, bits in re.findall(r"^const (\w+): i64 = 1 << (\d+);", source, re.M)}
     found = {}
-    for name, kind, least, mark, last in re.findall(r"Number::(\w+) => arg\.value_parser\(value_parser!\((\w+)\)(?:\.range\((\d+)\.\.(=?)(\w*)\))?\)", source):
+    for name, kind, least, mark, last in re.findall(RANGE, source):
         end = bound(last, constants) + bool(mark) if last else TYPES[kind][1]
         found[name] = (int(least or TYPES[kind][0]), end)
     return found
@@ -94,6 +96,8 @@ class Reader:
     def value(self, words):
         """What a row says of its argument: the names that it may be, whether there may be several, and the range of a number."""
         kind, inner = re.fullmatch(r"Value::(\w+)(?:\((?:Number::)?(\w+)\))?", words).groups()
+        if kind not in ("Text", "Label", "Named", "NamedOften", "Number", "Flag"):
+            fail(f"the value {kind} isn't known here")
         values = self.names[inner] if kind in ("Named", "NamedOften") else ()
         return {"values": values, "is_repeated": kind in ("Label", "NamedOften"), "range": self.ranges[inner] if kind == "Number" else ()}
 
@@ -117,11 +121,10 @@ class Reader:
 
     def command(self, name):
         body = re.search(rf"^fn {name}\(\) -> Subcommand \{{\n    Subcommand \{{\n(.*?)^    \}}", self.source, re.M | re.S)[1]
-        lists = [field(body, it) for it in ("checks", "options")]
+        about, notes, one_of, *lists = (field(body, it) for it in ("about", "notes", "one_of", "checks", "options"))
         rows = [row for it in lists if it != "&[]" for row in self.lists[it]]
-        one_of = field(body, "one_of")
         pair = self.pairs[one_of] if one_of != "None" else ()
-        return Command(name, texts_in(field(body, "about"))[0], self.notes[field(body, "notes")], tuple(self.option(row, pair) for row in rows))
+        return Command(name, texts_in(about)[0], self.notes[notes], tuple(self.option(row, pair) for row in rows))
 
 
 def commands() -> List[Command]:
