@@ -9,12 +9,17 @@ import random
 from dataclasses import dataclass, replace
 from typing import NamedTuple
 
+import option_rows
 import second_program
 import second_reading as reading
 
 COMMANDS = {"verify": 8, "cwt": 9, "show": 3, "digest": 2, "keys": 2, "make": 5}
 # the commands that may restrict their keys
-RESTRICTED = ("verify", "cwt", "digest")
+RESTRICTED = tuple(it.name for it in option_rows.commands() if it.option("least-secret"))
+# the options of `cwt` without an argument that say how one token is read, and those that state a number of seconds which is required
+OF_CWT = [it for command in option_rows.commands() for it in command.options if command.name == "cwt"]
+FLAGS = tuple(it.name for it in OF_CWT if not it.argument and it.name != "sequence")
+LIMITS = tuple(it.name for it in OF_CWT if it.range and it.name not in ("least-secret", "now", "leeway"))
 # how often a head is wider than it has to be, and how often a part that is made with slips has one: one of these rates
 WIDE_RATES = (0, 0, 0.05, 0.5)
 SLIP_RATES = (0.05, 0.1, 0.2, 0.4)
@@ -474,9 +479,8 @@ class Round:
             "require": self.chance.sample(reading.REQUIRABLE, self.pick(1, 1, 2)),
             "iss": self.pick(*TEXTS),
             "sub": self.pick(*TEXTS),
-            "require-aud": True,
-            "max-lifetime": str(self.pick(*seconds)),
-            "max-age": str(self.pick(*seconds)),
+            **{name: True for name in FLAGS},
+            **{name: str(self.pick(*seconds)) for name in LIMITS},
         }
         return {name: words for name, words in stated.items() if self.happens(0.3)}
 

@@ -1,9 +1,11 @@
-"""The help of the program and of each command, as docs/COMMANDS.md and packaging/help_notes.md have it.
+"""The help of the program and of each command, as docs/COMMANDS.md has it, with the notes of the program's source.
 
-A text is built from the first table of the first page, the options of the command's section, and the notes of the second
-page. Blanks and ends of lines are single spaces.
+A text is built from the first table of the page, the options of the command's section, and the notes. Blanks and ends of lines are
+single spaces.
 """
 import re
+
+import option_rows
 
 HELP = "-h, --help Print help"
 
@@ -48,11 +50,11 @@ class Option:
 
     def line(self):
         """What help says of it: the first sentence of its cell, its default and its values."""
-        text = re.split(r"\. (?=[A-Z])", self.cell)[0].rstrip(".")
+        text = re.split(r"\. (?=[A-Z`])", self.cell)[0]
         # other options have no marks in help
         text = re.sub(r"`(--[a-z-]+)`", r"\1", text)
         default = re.search(r"Default: `(\w+)`", self.cell)
-        values = re.search(r"Values: (`.*?`)\.", self.cell)
+        values = re.search(r"Values: ((?:`[^`]*`(?:, )?)+)", self.cell)
         text += f" [default: {default.group(1)}]" if default else ""
         text += f" [possible values: {values.group(1).replace('`', '')}]" if values else ""
         return f"{self.usage()} {capital(text)}"
@@ -85,7 +87,7 @@ def usage_of(command, options):
 def helps(page):
     """The help of the program, under the name cosecmd, and of each command."""
     about = {re.search(r"`(\w+)`", name).group(1): capital(plain(cell)) for name, cell in rows(page, "Command")}
-    notes = [(plain(note), re.findall(r"`(\w+)`", names)) for note, names in rows(page, "Note")]
+    notes = {"cosecmd": option_rows.program_notes(), **{it.name: it.notes for it in option_rows.commands()}}
     first = capital(re.search(r"^`cosecmd` (verifies .*)\.$", page, re.M).group(1))
     listed = " ".join(f"{name} {text}" for name, text in about.items())
     found = {
@@ -96,4 +98,4 @@ def helps(page):
         options = options_of(page, command)
         lines = " ".join(it.line() for it in options)
         found[command] = f"{text} {usage_of(command, options)} Options: {lines} {HELP}"
-    return {name: " ".join([text, *(note for note, names in notes if name in names)]) for name, text in found.items()}
+    return {name: " ".join([text, *notes[name].split()]) for name, text in found.items()}

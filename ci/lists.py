@@ -4,7 +4,8 @@
 usage: ci/lists.py KIND      KIND: algorithm, claim, reason, option, export: prints the places that a new one has to go into
 
 ci/documents compares: each place has each member of its kind, and the checklist of CONTRIBUTING.md for the kind names each place.
-The members are those of the source. A paragraph that names three algorithms for signatures names all, wherever it is.
+The members are those of the source. A paragraph that names three algorithms for signatures names all, wherever it is. The hints of
+the program name options that there are (ci/option_hints.py).
 """
 import pathlib
 import re
@@ -14,6 +15,8 @@ import typing
 
 sys.dont_write_bytecode = True
 import edge_source as source  # noqa: E402 (beside this file)
+import option_hints  # noqa: E402
+import option_rows  # noqa: E402
 
 TOP = source.TOP
 
@@ -82,6 +85,11 @@ def of_option(it):
     return rf'--{it.name}(?![\w-])|"{it.name}"'
 
 
+def of_word(it):
+    """A word of a command line in quotes, by itself or after an option."""
+    return rf'["=]{it.name}"'
+
+
 def of_claim(it):
     """A claim's name, as a part of a name too: `cnf_kid`, `auds`."""
     return rf"(?<![A-Za-z]){it.name}s?(?![A-Za-z])"
@@ -106,9 +114,15 @@ def claims():
     return [Member(it) for it in re.findall(r"^    pub (\w+): Option<ItemRef", known, re.M)]
 
 
-def options():
-    rows = re.findall(r"^\| (`--[^|]*) \|", (TOP / "docs/COMMANDS.md").read_text(), re.M)
-    return [Member(it) for it in sorted(set(re.findall(r"--([\w-]+)", " ".join(rows))))]
+def options(is_one=lambda command, option: True):
+    """Those of the program's options of which this holds with one of their commands."""
+    found = {it.name for command in option_rows.commands() for it in command.options if is_one(command.name, it)}
+    return [Member(it) for it in sorted(found)]
+
+
+def values():
+    """The values of the options that have a few."""
+    return [Member(it) for it in sorted({value for rows in option_rows.by_name().values() for row in rows for value in row.values})]
 
 
 def members(kind):
@@ -120,6 +134,10 @@ def members(kind):
         "claim": claims,
         "reason": lambda: [Member(it.name, it.number) for it in source.reasons()],
         "option": options,
+        "option of digest": lambda: options(lambda command, _: command == "digest"),
+        "option in hexadecimal": lambda: options(lambda _, it: it.argument == "HEX"),
+        "option with a text or a value": lambda: options(lambda _, it: it.argument and not it.range),
+        "value of an option": values,
         "export": lambda: [Member(it.name) for it in source.exports()],
         "call": lambda: [Member(it) for it in sorted({re.sub("^cose_(edge_)?((large|device)_)?", "", it.name) for it in source.exports()})],
     }[kind]()
@@ -140,7 +158,7 @@ PLACES = {
         Places(
             "algorithm for signatures",
             of_name,
-            "README.md docs/COMMANDS.md docs/DECISIONS.md docs/USING.md docs/PYTHON.md packaging/help_notes.md "
+            "README.md docs/COMMANDS.md docs/DECISIONS.md docs/USING.md docs/PYTHON.md "
             "crates/cosecmd/src/commands.rt crates/cosecmd/src/main.rt crates/cose_mac/src/lib.rt crates/cose_msg/src/lib.rt "
             "crates/cose_cwt/src/lib.rt bindings/rust/src/lib.rs bindings/rust/src/sign_input.rs "
             "bindings/python/src/cose/_arguments.py bindings/python/src/cose/signatures.py bindings/go/cose.go",
@@ -191,15 +209,19 @@ PLACES = {
         Places("reason", in_capitals, "include/cose.h"),
     ],
     "option": [
-        # (the second reading opens no file; tests/test_sign1.py tries the options of digest, verify and cwt)
-        Places("option", of_option, "crates/cosecmd/src/commands.rt docs/COMMANDS.md"),
+        # (docs/COMMANDS.md is made of the rows by ci/option_tables; the second reading opens no file; a row makes none)
+        Places("option", of_word, "crates/cosecmd/specs/*.antt"),
+        Places("value of an option", of_word, "crates/cosecmd/specs/*.antt rows/commands.json"),
+        Places("option", of_option, "rows/commands.json", "payload-to"),
+        Places("option", of_option, "ci/second_program.py", "key-file keys-file payload-file payload-length payload-to"),
         Places(
-            "option",
+            "option with a text or a value",
             of_option,
-            "ci/second_program.py",
-            "key-file keys-file payload-file payload-length payload-to",
+            "ci/generated_cases.py",
+            "key-file keys-file payload-file payload-to input limits",
         ),
-        Places("option", of_option, "tests/test_sign1.py", "alg key-file kid length detached diagnostic with-payload for-message"),
+        Places("option of digest", of_option, "examples/verify_sign1"),
+        Places("option in hexadecimal", of_option, "crates/cosecmd/src/argument_advice.rt tests/test_standard_error.py"),
     ],
     "export": [
         Places("export", of_name, "include/cose.h bindings/rust/src/raw.rs"),
@@ -266,6 +288,7 @@ def faults():
         if not any(f"/{pattern}".endswith(f"/{it}") for it in checklists.get(name, [])):
             yield f"CONTRIBUTING.md: the checklist of a new {name} doesn't name {pattern}"
     yield from faults_of_texts()
+    yield from option_hints.faults()
 
 
 def main():

@@ -6,6 +6,8 @@ one rule is another.
 """
 import re
 
+import option_rows
+
 # places of rows may be beyond what a list of bytes can have before them
 CLAIM_TEXTS, DATES = ("iss", "sub"), ("exp", "nbf", "iat")
 
@@ -355,7 +357,7 @@ def signed(_reading, program, _group, test):
 
 
 # the options without an argument, and those that may be there several times
-FLAGS, REPEATED = ("sequence", "text", "diagnostic", "detached", "with-payload", "for-message", "require-aud"), ("require", "header")
+FLAGS, REPEATED = option_rows.names_with(""), option_rows.repeated_names()
 
 
 def options_of(test):

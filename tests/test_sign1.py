@@ -3,13 +3,14 @@
 Each message is changed in several ways too, and then has to be refused. Images of 5 MB (50 KB for the program without a proof, which is
 slow) are signed on each curve as detached payloads. Every option that the program's help lists is tried, with a message that it decides on.
 """
+import json
 import os
 import re
 import shutil
 import tempfile
 
-from support import (AUTHENTIC, CURVES, KEYS, MESSAGE, SIGN1, SIGNED, UNPROVED, Case, cbor, flipped, in_sequence, keys, mac0, needs, new_pair,
-                     public, sign1)
+from support import (AUTHENTIC, CURVES, KEYS, MESSAGE, SIGN1, SIGNED, TOP, UNPROVED, Case, cbor, flipped, in_sequence, keys, mac0, needs,
+                     new_pair, printed, public, sign1, status_of)
 
 PAYLOAD, DATA = b"a payload", b"external data"
 IMAGE = b"\x5a" * (50_000 if UNPROVED else 5_000_000)
@@ -228,6 +229,15 @@ def of_claims(pair):
                      for it, given, text in several] for option, several in words.items()}
 
 
+def rows_with(command, option):
+    """The rows of the program that run a command with an option, and no file or --vouch: the arguments, the input, and what is printed."""
+    groups = json.loads((TOP / "rows" / "commands.json").read_text())["testGroups"]
+    tests = [test for group in groups for test in group["tests"] if test["arguments"][:1] == [command] and not test.get("files")]
+    named = [(test, {word.split("=")[0] for word in test["arguments"]}) for test in tests]
+    return [(test["arguments"][1:], bytes.fromhex(test["input"]), test["result"]["output"][:-1])
+            for test, names in named if f"--{option}" in names and "--vouch" not in names]
+
+
 class Tokens(Pairs):
     """CWTs (RFC 8392) that are signed."""
 
@@ -336,10 +346,15 @@ class Options(Pairs):
         }
 
     def try_options(self, command, options, *others):
+        """Those that help lists and that have no cases here have those of rows/commands.json."""
         text = self.program([command, "--help"]).text.decode()
-        listed = set(re.findall(r"^ +(?:-h, )?--([a-z-]+)", text, re.M))
-        self.assertEqual(listed - {"help", "vouch"}, set(options))  # which Examples and Messages try
+        listed = set(re.findall(r"^ +(?:-h, )?--([a-z-]+)", text, re.M)) - {"help", "vouch"}  # which Examples and Messages try
+        self.assertEqual(set(options) - listed, set())
         self.try_cases(command, options, *others)
+        of_rows = {option: rows_with(command, option) for option in listed - set(options)}
+        for option, cases in of_rows.items():
+            self.assertEqual({status_of(printed(text)) for _, _, text in cases} - {2}, {0, 1}, f"rows/commands.json, --{option}")
+        self.try_cases(command, of_rows)
 
     def test_options_of_verify(self):
         both = self.of_both(PAYLOAD, lambda message: message.authentic(), "refused")
