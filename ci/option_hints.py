@@ -1,8 +1,8 @@
 """Compares what the program says on standard error, and what that is for, with the rows of its options (option_rows.py).
 
 The sources of hints stand by themselves. So each option, command and value that one of them names has to be there, with the value as one
-of its option's, and two of their lists have to be complete: the options whose arguments are hexadecimal, and the commands that read
-standard input.
+of its option's, and three of their lists have to be complete: the options whose arguments are hexadecimal, and the commands that take
+a key set and that read standard input.
 """
 import re
 
@@ -46,6 +46,8 @@ def unknown_names(code):
 
 def whole_lists():
     """The lists that have to be complete: the source, how it has the list, and what has to be in it."""
+    having = [it.name for it in option_rows.commands() if it.option("keys")]
+    yield "advice", r"fn takes_key_set(.*?)None => false", having
     yield "argument_advice", r"const HEXADECIMAL: &\[&str\] =(.*?);", option_rows.names_with("HEX")
     yield "streams", r"match words\.get\(1\) \{(.*?)=> false", [*(it.name for it in option_rows.commands()), "--for-message"]
 

@@ -285,6 +285,7 @@ class StandardError(Case):
         for words, said in [
             (["verify", "--key-file", "key"], of_make),
             (["cwt", "--now", "0", "--key=00"], of_make),
+            (["show", "--key", "00"], ""),
             (["verify", "--keys-file", "-"], dash),
             (["verify", "--keys-file=-"], dash),
             ([*VERIFY, "--algs", "5,HS256"], algs.format(2)),

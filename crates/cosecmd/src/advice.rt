@@ -80,6 +80,14 @@ impl<'a> Ended<'a> {
         }
     }
 
+    /// Whether the run was that of a command that takes a key set.
+    fn takes_key_set(&self) -> bool {
+        match self.words.get(1) {
+            Some(&command) => matches!(command, "verify" | "cwt" | "digest" | "keys"),
+            None => false,
+        }
+    }
+
     /// Whether this option is there, with its argument in the same word or in the next.
     fn has(&self, option: &str) -> bool {
         self.words.iter().any(|&word| match word.strip_prefix(option) {
@@ -191,7 +199,7 @@ impl<'a> Ended<'a> {
                 None
             };
         }
-        if self.has("--key") || self.has("--key-file") {
+        if self.takes_key_set() && (self.has("--key") || self.has("--key-file")) {
             return Some(KEYS_FILE);
         }
         None

@@ -349,7 +349,13 @@ const SEQUENCE: CommandOption = CommandOption {
     name: "sequence",
     argument: "",
     value: Value::Flag,
-    presence: Presence::Without(&["payload", "payload-file", "payload-length", "payload-to"]),
+    presence: Presence::Without(&[
+        "payload",
+        "payload-file",
+        "payload-length",
+        "payload-to",
+        "header",
+    ]),
     help: "Take a CBOR sequence of messages (RFC 8742), each printed after its place",
 };
 
