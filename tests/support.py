@@ -12,6 +12,7 @@ import os
 import pathlib
 import re
 import resource
+import shlex
 import shutil
 import subprocess
 import sys
@@ -87,8 +88,7 @@ def encoded(message):
 
 
 def mac0(payload, *, alg=5, secret=SECRET, headers=None, unprotected=None, tags=b"\xd1", data=b"", is_detached=False):
-    """A COSE_Mac0 (RFC 9052 section 6.3) of a payload and external data, with protected headers beside its
-    algorithm."""
+    """A COSE_Mac0 (RFC 9052 section 6.3) of a payload and external data, with headers beside its algorithm."""
     protected = cbor({1: alg, **(headers or {})})
     tag = mac_messages.tag(alg, secret, protected, data, payload)
     return Message(alg, tags, protected, unprotected or {}, payload, tag, is_detached)
@@ -171,9 +171,9 @@ def folder_of(test_class):
 class Case(unittest.TestCase):
     """Tests over runs of the program in a folder, which has these files.
 
-    The words of a run are a text that is split at its blanks, or a list. Beside its methods a class has a test for each
-    behaviour that its table `runs` names, with the arguments of `tried` for each run: a tuple of words, or of inputs,
-    is for each of them, and a dictionary at the end has arguments by name.
+    The words of a run are a text that is split as a shell does, or a list. Beside its methods a class has a test for
+    each behaviour that its table `runs` names, with the arguments of `tried` for each run: a tuple of words, or of
+    inputs, is for each of them, and a dictionary at the end has arguments by name.
     """
     maxDiff = None
     files, runs = {}, {}
@@ -213,8 +213,7 @@ class Case(unittest.TestCase):
 
     @contextlib.contextmanager
     def pipe(self, name, content, mode=0o600):
-        """A pipe in the folder that gets this content. After the block its writer has ended, and no later run reads of
-        it."""
+        """A pipe in the folder that gets this content. After the block its writer has ended, and it is gone."""
         os.mkfifo(self.folder / name, mode)
         writing = threading.Thread(target=(self.folder / name).write_bytes, args=(content,))
         writing.start()
@@ -225,7 +224,7 @@ class Case(unittest.TestCase):
     def begin(self, words, **how):
         """A run of the program that is given its input by a pipe."""
         streams = {"stdin": subprocess.PIPE, "stdout": subprocess.PIPE, "cwd": self.folder}
-        return subprocess.Popen([PROGRAM, *words.split()], **{**streams, **how})
+        return subprocess.Popen([PROGRAM, *shlex.split(words)], **{**streams, **how})
 
     def program(self, words, given=b"", command=(), closed=(), limits=None, output=subprocess.PIPE, **how):
         """A run of the program or of a command. Its input is bytes in a pipe, or a path or a file that is given
@@ -243,7 +242,7 @@ class Case(unittest.TestCase):
         streams = {"input" if isinstance(given, bytes) else "stdin": given, "stdout": output, "stderr": subprocess.PIPE}
         streams = {name: None if isinstance(it, pathlib.Path) else it for name, it in streams.items()}
         how = {"cwd": self.folder, "executable": None if command else PROGRAM, "preexec_fn": prepare, **streams, **how}
-        words = [*(command or ["cosecmd"]), *(words.split() if isinstance(words, str) else words)]
+        words = [*(command or ["cosecmd"]), *(shlex.split(words) if isinstance(words, str) else words)]
         ended = subprocess.run(words, check=False, **how)
         return Ended(ended.stdout or b"", ended.returncode, (ended.stderr or b"").decode())
 

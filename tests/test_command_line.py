@@ -35,8 +35,8 @@ class CommandLine(Case):
             (f"cwt {KEYS} --now 1444064944", TOKEN, "refused claims Expired at 9")],
         "files of keys": [
             (UNDER_KEY, MESSAGE, AUTHENTIC),
-            (("verify --keys-file missing", "digest --keys-file ."), MESSAGE, "fault file keys-file"),
-            (["cwt", "--now", "0", "--keys-file", ""], MESSAGE, "fault file keys-file"),
+            (("verify --keys-file missing", "digest --keys-file .", "cwt --now 0 --keys-file ''"), MESSAGE,
+             "fault file keys-file"),
             ("verify --keys-file /dev/zero", MESSAGE, NO_SET),
             ("verify --keys-file longest", MESSAGE, "fault keys Trailing at 1"),
             (("make --alg 5 --length 0 --key-file missing", "make --alg 5 --length 0 --key-file /dev/zero"), MESSAGE,

@@ -105,8 +105,7 @@ class Shell:
                 self.look_at_argument(words, option)
 
     def look_at_argument(self, words, option):
-        """What is completed after an option with an argument: after a folder, and after no letter where help lists the
-        values."""
+        """What is completed after an option: after a folder, and after nothing where help lists values."""
         wanted = {"part/o": ["part/one"] if option.argument == "PATH" else []} if option.argument else {}
         if option.values:
             wanted[""] = sorted(option.values.split(", "))

@@ -82,8 +82,7 @@ class FailingStreams(Case):
     }
 
     def counted(self, words, given=b"", content=b"hi", **fails):
-        """A run with this content of the file, and what fails: how it ended, and how often it read its input and a
-        file, wrote its output, and opened a file."""
+        """How a run ends with such a file where this fails; how often it reads its input and a file, writes, and opens."""
         self.put("file", content)
         with open(self.folder / "calls", "w+b") as mark:
             settings = {f"FAIL_{name.upper()}": value for name, value in fails.items()}
@@ -93,8 +92,7 @@ class FailingStreams(Case):
         return (ended, *(calls.count(kind) for kind in (b"i", b"f", b"o", b"n")))
 
     def tried(self, words, given, text, inputs=None, files=None, **how):
-        """A run that prints this, after so many reads of the input and of the file, and opens each file that it names
-        once."""
+        """A run prints this after so many reads of the input and of the file, and opens each file of its words once."""
         ended, *seen = self.counted(words, given, **how)
         with self.subTest(words=words[:300], given=str(given)[:300], how=str(how)[:300]):
             opens = sum(word in ("file", "/dev/zero") for word in words.split())

@@ -94,8 +94,7 @@ class Field(Case):
             self.try_shape(sign1(self.es256, payload, **{where: {KID: kid}}), keys, AT, f"iss 5554\n{LINES_OF_DATES}")
 
     def test_enclave_attestation(self):
-        """AWS Nitro Enclaves: attestation document, 'COSE and CBOR' of its user guide: ES384, no tag, all in the
-        payload."""
+        """AWS Nitro Enclaves: attestation document, 'COSE and CBOR' of its user guide: ES384, no tag."""
         payload = cbor({
             "module_id": "i-0123456789abcdef0-enc0123456789abcdef", "digest": "SHA384", "timestamp": ISSUED * 1000,
             "pcrs": {number: digest(f"PCR {number}", "sha384") for number in range(16)},
@@ -115,8 +114,7 @@ class Field(Case):
         self.try_shape(mac0(payload, secret=SECRET), SECRET_KEY)
 
     def test_entity_tokens(self):
-        """Entity attestation token: RFC 9711 sections 4.1 (nonce) and 4.2 (claims; 4.2.18: submodules), under the tag
-        of a CWT."""
+        """Entity attestation token: RFC 9711 sections 4.1 (nonce) and 4.2 (claims; 4.2.18: submodules), tagged a CWT."""
         submodule = {"tee": {NONCE: digest("tee")[:8], 271: ("1.3.4", 1)}}
         payload = cbor({ISS: "attester", **DATES, NONCE: digest("nonce"), UEID: b"\x01" + digest("device"),
                         258: b"\x94\x8f\x88", 259: b"\x01", 262: True, 263: 3, 266: submodule})
@@ -125,8 +123,7 @@ class Field(Case):
         self.try_shape(mac0(payload, secret=SECRET, unprotected=kid, tags=CWT + MAC0), SECRET_KEY, AT, claims)
 
     def test_realm_token(self):
-        """Arm CCA: draft-ffm-rats-cca-token section 4 (claims): the token of a realm, signed by a key that its own
-        claims have."""
+        """Arm CCA: draft-ffm-rats-cca-token section 4: a realm's token, signed by a key that its own claims have."""
         key = public(self.es384)
         challenge, initial, extended = (digest(it, "sha512") for it in ("challenge", "initial", "extended"))
         payload = cbor({NONCE: challenge, 44235: bytes(64), 44238: initial, 44236: "sha-512", 44239: (extended,) * 4,
@@ -170,8 +167,7 @@ class Field(Case):
         self.try_shape(message, self.of_certificate("leaf384"))
 
     def receipt(self, length):
-        """A receipt of inclusion: draft-ietf-cose-merkle-tree-proofs section 5.2: the root is detached, the proof
-        unprotected."""
+        """A receipt: draft-ietf-cose-merkle-tree-proofs section 5.2: the root is detached, the proof unprotected."""
         proof = cbor((1 << length, 3, tuple(digest(f"node {number}") for number in range(length))))
         headers, unprotected = {395: 1, KID: b"log"}, {396: {-1: (proof,)}}
         return sign1(self.es256, digest("root of the tree"), headers=headers, unprotected=unprotected, is_detached=True)

@@ -42,8 +42,7 @@ def kept(payload, mode=stat.S_IFREG | 0o600):
 
 
 def contents(folder):
-    """Each name in a folder, with its kind and mode, and with a link's text, or the length of a file's bytes and their
-    digest."""
+    """Each name in a folder, with its kind and mode, and the length and digest of a link's text or a file's bytes."""
     def content(path):
         return os.readlink(path).encode() if path.is_symlink() else path.read_bytes() if path.is_file() else b""
 
@@ -51,8 +50,7 @@ def contents(folder):
 
 
 def limited(most, is_signaled=True):
-    """Arguments of a run whose files have at most so many bytes, at the next of which a signal ends it, or a write
-    fails."""
+    """Arguments of a run whose files have at most so many bytes: at one more a signal ends it, or the write fails."""
     # Python ignores the signal of a file that becomes too long, and so does its child then
     return {"limits": {resource.RLIMIT_FSIZE: most, resource.RLIMIT_CORE: 0}, "restore_signals": is_signaled}
 

@@ -39,7 +39,7 @@ class RefusedMemory(Case):
             (f"{VERIFY} --aad 0102", MESSAGE, "refused BadAuth at 10"),
             (f"{VERIFY} --kind sign1", MESSAGE, "refused WrongTag at 0"),
             (f"verify {POINT} --vouch {VOUCH}", UNVERIFIED, "authentic sign1 alg -7 payload 0 taken 74"),
-            (f"verify {POINT} --aad= --kind sign1 --vouch 00", UNVERIFIED, "refused BadAuth at 8"),
+            (f"verify {POINT} --aad '' --kind sign1 --vouch 00", UNVERIFIED, "refused BadAuth at 8"),
             (f"{VERIFY} --payload 6869", DETACHED, "authentic mac0 alg 5 payload 2 taken 42"),
             (f"{VERIFY} --payload 6869", MESSAGE, "refused Attached at 7"),
             (f"{VERIFY} --payload-file key", DETACHED, "refused BadAuth at 8"),
@@ -74,7 +74,7 @@ class RefusedMemory(Case):
             (CWT, CONFIRMING, CONFIRMED),
             (f"{CWT} --claims all", CONFIRMING, ALL_CLAIMS),
             (CWT, TOKEN + b"\xff", "refused message Trailing at 123"),
-            (f"{CWT} --aad= --kind mac0 --leeway 1 --aud other", TOKEN, "refused claims WrongAudience at 32"),
+            (f"{CWT} --aad '' --kind mac0 --leeway 1 --aud other", TOKEN, "refused claims WrongAudience at 32"),
             (f"{CWT} --require exp --iss other", TOKEN, "refused policy Issuer at 2"),
             (f"cwt --now 1444064943 {POINT} --vouch 00", b"", "refused message Truncated at 0"),
             (f"{CWT} --vouch 0", b"", "fault line vouch")],
@@ -82,7 +82,7 @@ class RefusedMemory(Case):
             ((f"{MAKE} --key {KEY.hex()}", f"{MAKE} --key-file key"), b"hi", MESSAGE),
             (f"{MAKE} --key {KEY.hex()} --kid 3", b"", "fault line kid"),
             (f"{MAKE} --key {POINT.split()[1]}", b"", "fault make WrongKey"),
-            (f"{MAKE} --key {KEY.hex()} --kid= --aad=", b"h", bytes.fromhex("d18443a10105a104404268"), 2)],
+            (f"{MAKE} --key {KEY.hex()} --kid '' --aad ''", b"h", bytes.fromhex("d18443a10105a104404268"), 2)],
     }
 
     def tried(self, words, given, text, status=None):

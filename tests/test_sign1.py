@@ -272,8 +272,7 @@ def of_claims(pair):
 
 
 class Options(Pairs):
-    """Of each option that a command's help lists, and no other, a message that is accepted with it, and one that
-    isn't."""
+    """Of each option that a command's help lists, and no other, a message that is accepted and one that isn't."""
     curves = CURVES[:1]
 
     def of_both(self, payload, accepted, refused):

@@ -131,27 +131,26 @@ class StandardError(Case):
             says(("verify --keys-file -", "verify --keys-file=-"), MESSAGE, DASH, 2),
             says(f"{VERIFY} --algs x", MESSAGE, ALGS.format(1), 2),
             says((f"{VERIFY} --algs 5,HS256", f"{VERIFY} --algs=5,,6"), MESSAGE, ALGS.format(2), 2),
-            says((f"{VERIFY} --header 4a", f'{VERIFY} --header 4 --header="x'), MESSAGE, LABEL, 2),
+            says((f"{VERIFY} --header 4a", f"{VERIFY} --header 4 --header='\"x'"), MESSAGE, LABEL, 2),
             says("cwt --now 0 --keys f6", MESSAGE, of_argument("keys", NO_KEY), 2)],
-        "the output is whole with standard error closed": [
-            says(VERIFY, MESSAGE, None, text=AUTHENTIC, closed=[2]),
-            says(VERIFY, PEM, None, text="refused WrongType at 0", closed=[2])],
+        "a text in a file is named as one in a pipe": [says("show", pathlib.Path("text"), on_input("PEM"))],
         "why the input can't be read": [
             says(("show", VERIFY, LIST), pathlib.Path("/"), NO_INPUT.format("it is a folder"), text="fault input"),
             says(("show", VERIFY, LIST), b"", NO_INPUT.format("it is closed"), text="fault input", closed=[0])],
     }
 
     def expect_twice(self, words, given, said, before=True, begins="fault "):
-        """The fault of make goes to standard error too, after what is said of a file, and before what is said of an
-        argument."""
+        """The fault of make goes there too, after what is said of a file, and before what is said of an argument."""
         line = self.program(words, given).text.decode()
         self.assertTrue(line.startswith(begins), line)
         self.expect(words, given, line.rstrip("\n"), 2, said + line if before else line + said)
 
-    def test_the_output_is_whole_with_standard_error_full(self):
+    def test_the_output_is_whole_with_standard_error_closed_or_full(self):
+        self.put("key", KEY, 0o644)
         with open("/dev/full", "wb") as full:
-            self.expect(VERIFY, MESSAGE, AUTHENTIC, stderr=full)
-            self.expect(VERIFY, PEM, "refused WrongType at 0", stderr=full)
+            for how in {"closed": [2]}, {"stderr": full}:
+                self.expect(VERIFY, MESSAGE, AUTHENTIC, **how)
+                self.expect(VERIFY, PEM, "refused WrongType at 0", **how)
 
     def test_an_input_of_no_byte_yet(self):
         reading, writing = os.pipe()
@@ -161,10 +160,7 @@ class StandardError(Case):
         os.close(reading)
         os.close(writing)
 
-    def test_a_text_in_a_file_is_named_as_one_in_a_pipe(self):
-        self.expect("show", self.folder / "text", None, said=on_input("PEM"))
-
-    def test_the_fault_of_make_comes_before_what_is_said_of_arguments(self):
+    def test_what_to_do_about_options_of_make_that_are_refused(self):
         self.expect_twice(f"{MAKE} 2 --keys-file key", b"hi", OF_OTHERS, before=False, begins="error: ")
 
     def test_a_payload_is_any_text(self):

@@ -102,8 +102,7 @@ class TextInput(Case):
                 self.assertEqual(running.stdout.read().decode(), f"{AUTHENTIC}\n", writing)
 
     def wrong_at(self, words, given, place, what=WRONG):
-        """A text that is wrong at the character of this number is a fault, and that is said, without any six characters
-        of it."""
+        """A text that is wrong at this character is a fault, and that is said, without any six characters of it."""
         said = self.expect(words, given, "fault input", said=what).said
         with self.subTest(words=words, given=given):
             self.assertIn(f"character {place} of", said)
