@@ -180,8 +180,11 @@ class Case(unittest.TestCase):
 
     def __init_subclass__(cls):
         for behaviour, runs in vars(cls).get("runs", {}).items():
-            name = re.sub(r"\W+", "_", behaviour.replace("'", ""))
-            setattr(cls, f"test_{name}", functools.partialmethod(cls.try_each, runs))
+            def test(self, runs=runs):
+                self.try_each(runs)
+
+            test.__name__ = "test_" + re.sub(r"\W+", "_", behaviour.replace("'", ""))
+            setattr(cls, test.__name__, test)
 
     def try_each(self, runs):
         for words, given, *rest in runs:

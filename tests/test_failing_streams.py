@@ -82,7 +82,7 @@ class FailingStreams(Case):
     }
 
     def counted(self, words, given=b"", content=b"hi", **fails):
-        """How a run ends with such a file where this fails; how often it reads its input and a file, writes, and opens."""
+        """How a run ends with such a file where this fails; how often it reads input and file, writes and opens."""
         self.put("file", content)
         with open(self.folder / "calls", "w+b") as mark:
             settings = {f"FAIL_{name.upper()}": value for name, value in fails.items()}

@@ -114,7 +114,7 @@ class Field(Case):
         self.try_shape(mac0(payload, secret=SECRET), SECRET_KEY)
 
     def test_entity_tokens(self):
-        """Entity attestation token: RFC 9711 sections 4.1 (nonce) and 4.2 (claims; 4.2.18: submodules), tagged a CWT."""
+        """Entity attestation token: RFC 9711 sections 4.1 (nonce) and 4.2 (claims; 4.2.18: submodules), as a CWT."""
         submodule = {"tee": {NONCE: digest("tee")[:8], 271: ("1.3.4", 1)}}
         payload = cbor({ISS: "attester", **DATES, NONCE: digest("nonce"), UEID: b"\x01" + digest("device"),
                         258: b"\x94\x8f\x88", 259: b"\x01", 262: True, 263: 3, 266: submodule})

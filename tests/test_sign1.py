@@ -318,7 +318,6 @@ class Options(Pairs):
             (f"--payload-length {len(PAYLOAD) - 1} --payload-file more {key}", apart, bad),
             (f"--payload-to new {key}", whole, whole.authentic()),
             (f"--payload-to new {key}", whole, "fault file payload-to"),
-            (f"--payload-to left {wrong}", whole, whole.bad_auth()),
             (f"--header 1 --header=4 {key}", whole, f"{whole.authentic()}\nprotected 1: {pair.curve.alg}\nabsent 4"),
             (f"--header 1 --header=4 {wrong}", whole, whole.bad_auth()),
         ]
@@ -335,10 +334,15 @@ class Options(Pairs):
     def test_options_of_verify(self):
         self.try_options("verify", self.of_both(PAYLOAD, Message.authentic, "refused") + self.of_verify())
         self.assertEqual((self.folder / "new").read_bytes(), PAYLOAD)
-        self.assertFalse((self.folder / "left").exists(), "the payload of a refused message")
 
     def test_options_of_cwt(self):
         key = keys(public(self.pairs[0][0]))
         cases = self.of_both(cbor({2: "erikw"}), lambda message: "admitted\nsub 6572696b77", "refused message")
         of_claims_alone = [(f"{options} {key}", *rest) for options, *rest in of_claims(self.pairs[0][0])]
         self.try_options("cwt", [(f"{options} --now 0", *rest) for options, *rest in cases] + of_claims_alone)
+
+    def test_the_payload_of_a_refused_message_is_kept_nowhere(self):
+        pair, other = self.pairs[0]
+        message = signed(pair)
+        self.verify(public(other), message, message.bad_auth(), "--payload-to left")
+        self.assertFalse((self.folder / "left").exists())

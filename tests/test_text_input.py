@@ -123,11 +123,13 @@ class TextInput(Case):
             self.wrong_at(f"{VERIFY} hex", HEX[:4] + blank + b"!", 5 + len(blank))
 
     def test_what_is_said_where_the_form_is_another(self):
-        webtoken, form_too = b"eyJhbGciOiJIUzI1NiJ9.e30.AAAA", ("hex", "base64url", "auto")
+        token = b"eyJhbGciOiJIUzI1NiJ9.e30.AAAA"
+        begun = (token, "a JSON Web Token"), (b"-----BEGIN X-----", "PEM"), (b'{"a":1}', "JSON")
         for words, given, hint, text in [
-            *((f"verify {KEYS}", given, "`--input auto`", "refused WrongType at 0") for given in (HEX, URL)),
-            *((f"{VERIFY} {form}", given, f"begins as {name}", None) for form in form_too for given, name in (
-                (webtoken, "a JSON Web Token"), (b"-----BEGIN X-----", "PEM"), (b'{"a":1}', "JSON"))),
+            (f"verify {KEYS}", HEX, "`--input auto`", "refused WrongType at 0"),
+            (f"verify {KEYS}", in_base64(MESSAGE)[0], "`--input auto`", "refused WrongType at 0"),
+            *((f"{VERIFY} {form}", given, f"begins as {name}", None)
+              for form in ("hex", "base64url", "auto") for given, name in begun),
             (f"{VERIFY} hex", MESSAGE, "leave out --input", "fault input"),
             (f"{VERIFY_SIGNED} hex", HEX_SIGNED, "without --vouch", "refused BadAuth at 32"),
         ]:
