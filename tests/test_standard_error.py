@@ -30,8 +30,8 @@ TEXTS = [
     (b"abcdef-_GHIJ", "base64url"),
     *((text, "hexadecimal") for text in (HEX, HEX.upper())),
 ]
-COMMANDS = VERIFY, CWT, DIGEST = tuple(f"{command} --keys-file key" for command in ("verify", "cwt --now 0", "digest"))
-MAKE = "make --alg 5 --length"
+VERIFY, CWT, MAKE = "verify --keys-file key", "cwt --now 0 --keys-file key", "make --alg 5 --length"
+COMMANDS = VERIFY, CWT, "digest --keys-file key"
 
 KEY_TOOL = "examples/cose_key (installed: cosecmd-key)"
 OF_IT, JOSE = f"{KEY_TOOL} makes keys in CBOR of it\n", "COSE is read here, and nothing of JOSE\n"

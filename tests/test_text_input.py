@@ -54,21 +54,6 @@ SHORT = base64.urlsafe_b64encode(MESSAGE[:40])  # has two signs of padding
 class TextInput(Case):
     files = {"public": SIGNED_KEY}
     runs = {
-        "each command answers to a text as to its bytes": [
-            (f"{words} --input {form}", given, text, None, said)
-            # each command, with a message, what is printed of it, and what is said
-            for words, content, text, said in (
-                (f"verify {KEYS}", MESSAGE, AUTHENTIC, ""),
-                (f"cwt {KEYS} --now 1444064943", TOKEN, "admitted\nsub 6572696b77\nexp 1444064944", ""),
-                ("show", MESSAGE, "shape mac0 payload 2 auth 32 taken 44\nprotected 01 05", ""),
-                (f"keys {KEYS} --for-message", MESSAGE, "key at 0 kty 4 usable fits\nusable 1 of 1", ""),
-                (f"digest {SIGNED_KEYS}", SIGNED, re.compile(rb"vouch 014c3363b499[0-9a-f]+\n"), None),
-            ) for form, given in (
-                ("cbor", content), ("auto", (content, *in_hex(content), *in_base64(content))), ("hex", in_hex(content)),
-                ("base64url", in_base64(content)))],
-        "payloads of many lengths": [
-            (f"{VERIFY} {form}", write(message.encoded())[-3:], message.authentic(), None, "")
-            for message in map(mac0, map(os.urandom, (*range(24), 255, 4096, 20000))) for form, write in FORMS.items()],
         "a sequence and what comes after a message": [
             (f"{VERIFY} hex --sequence", HEX + HEX, f"at 0\n{AUTHENTIC}\nat 44\n{AUTHENTIC}", None, ""),
             (f"{VERIFY} hex", HEX + b"f6", "refused Trailing at 44", None, ""),
@@ -80,6 +65,26 @@ class TextInput(Case):
                 ("base64url", (base64.urlsafe_b64encode(MESSAGE[:42]) + b"A", SHORT[:-1]), EARLY),
                 ("base64url", (b"=" + in_base64(MESSAGE + b"\xf6")[1], SHORT + b"AA", SHORT + b"="), WRONG))],
     }
+
+    def test_each_command_answers_to_a_text_as_to_its_bytes(self):
+        for words, content, text, said in [
+            (f"verify {KEYS}", MESSAGE, AUTHENTIC, ""),
+            (f"cwt {KEYS} --now 1444064943", TOKEN, "admitted\nsub 6572696b77\nexp 1444064944", ""),
+            ("show", MESSAGE, "shape mac0 payload 2 auth 32 taken 44\nprotected 01 05", ""),
+            (f"keys {KEYS} --for-message", MESSAGE, "key at 0 kty 4 usable fits\nusable 1 of 1", ""),
+            (f"digest {SIGNED_KEYS}", SIGNED, re.compile(rb"vouch 014c3363b499[0-9a-f]+\n"), None),
+        ]:
+            texts = {form: write(content) for form, write in FORMS.items()}
+            texts.update(cbor=content, auto=(content, *texts["hex"], *texts["base64url"]))
+            for form, given in texts.items():
+                self.try_each([(f"{words} --input {form}", given, text, None, said)])
+
+    def test_payloads_of_many_lengths(self):
+        for length in [*range(24), 255, 4096, 20000]:
+            message = mac0(os.urandom(length))
+            for form, write in FORMS.items():
+                texts = write(message.encoded())[-3:]
+                self.try_each([(f"{VERIFY} {form}", texts, message.authentic(), None, "")])
 
     def test_a_payload_is_kept_of_a_text(self):
         self.expect(f"{VERIFY} base64url --payload-to kept", URL, AUTHENTIC, said="")
