@@ -115,8 +115,9 @@ class Ended(NamedTuple):
 
     def shown(self):
         """A text as it is, other bytes in hexadecimal, and of very many the digest."""
-        text = self.text.decode() if self.text.isascii() else self.text.hex()
-        text = text if len(text) < 100_000 else f"{len(self.text)} bytes, {hashlib.sha256(self.text).hexdigest()}"
+        text = f"{len(self.text)} bytes, {hashlib.sha256(self.text).hexdigest()}"
+        if len(self.text) < 100_000:
+            text = self.text.decode() if self.text.isascii() else self.text.hex()
         return f"{text}\n[status {self.status}]\n{self.said}"
 
 
@@ -183,7 +184,7 @@ class Case(unittest.TestCase):
             def test(self, runs=runs):
                 self.try_each(runs)
 
-            test.__name__ = "test_" + re.sub(r"\W+", "_", behaviour.replace("'", ""))
+            test.__name__ = "test_" + re.sub(r"\W+", "_", behaviour.lower().replace("'", ""))
             setattr(cls, test.__name__, test)
 
     def try_each(self, runs):
