@@ -75,7 +75,7 @@ class FailingStreams(Case):
             (f"{BY_FILE} /dev/zero", b"hi", "fault file key-file", 0, 65536, {"file": 65537})],
         # the argument is longer than any that the system passes
         "external data has at most 65535 bytes": [
-            (f"{words} --aad 00", given, text, inputs, {"digits": 2 * most}) for most, cases in (
+            (f"{words} --aad ''", given, text, inputs, {"digits": 2 * most}) for most, cases in (
                 (65535, ((VERIFY, WITH_DATA, AUTHENTIC, 45), (MAKE, b"hi", WITH_DATA, 2))),
                 (65536, ((VERIFY, WITH_DATA, "fault line aad", 0), (MAKE, b"hi", "fault line aad", 0))),
             ) for words, given, text, inputs in cases],
