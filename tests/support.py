@@ -1,20 +1,23 @@
-"""What the tests have in common: the program that is tried, messages that others than it make, runs, and what is wanted of them.
+"""What the tests have in common: the program that is tried, messages that others than it make, what is wanted of runs.
 
-The proved program is tried, or with COSECMD_UNPROVED=1 in the environment the one that `./cosecmd --unproved` builds. Each run that
-something is wanted of is a subtest, so that all differences are reported and not the first.
+The proved program is tried, or with COSECMD_UNPROVED=1 in the environment the one that `./cosecmd --unproved` builds.
+Each run that something is wanted of is a subtest, so that all differences are reported and not the first.
 """
 import atexit
 import contextlib
 import functools
+import hashlib
 import itertools
 import os
 import pathlib
 import re
 import resource
+import shlex
 import shutil
 import subprocess
 import sys
 import tempfile
+import threading
 import unittest
 from typing import NamedTuple
 
@@ -29,28 +32,26 @@ PROGRAM = TOP / ("out/unproved/cosecmd" if UNPROVED else "crates/cosecmd/out/cos
 # the script that has openssl verify signatures
 SIGN1 = (sys.executable, TOP / "examples" / "verify_sign1", *(["--unproved"] if UNPROVED else []))
 
-# the example message, and its key (RFC 4231 section 4.3), as it is and as an argument
-MESSAGE, KEY = ((TOP / "examples" / name).read_bytes() for name in ("mac0.cbor", "key.cbor"))
-KEY_FILE = TOP / "examples" / "key.cbor"
-SECRET = b"Jefe"
-KEYS = ("--keys", cbor({1: 4, -1: SECRET}).hex())
-AUTHENTIC = "authentic mac0 alg 5 payload 2 taken 44"
-# the example of RFC 9052 appendix C.2.1, and its key
-SIGNED, SIGNED_KEY_FILE = (TOP / "examples" / "sign1.cbor").read_bytes(), TOP / "examples" / "sign1_key.cbor"
 
-# a point whose coordinates are 32 bytes 11 and 32 bytes 22, and a COSE_Sign1 of no payload, whose signature is none under it
-POINT = ("--keys", cbor({1: 2, -1: 1, -2: 32 * b"\x11", -3: 32 * b"\x22"}).hex())
+def keys(*several):
+    """The option with a key, or with a set of several."""
+    return f"--keys {cbor(several if len(several) > 1 else several[0]).hex()}"
+
+
+# the example messages, of RFC 4231 section 4.3 and of RFC 9052 appendix C.2.1, and their keys
+MESSAGE, KEY, SIGNED, SIGNED_KEY = (
+    (TOP / "examples" / f"{name}.cbor").read_bytes() for name in ("mac0", "key", "sign1", "sign1_key"))
+SECRET, AUTHENTIC = b"Jefe", "authentic mac0 alg 5 payload 2 taken 44"
+KEYS = keys({1: 4, -1: SECRET})
+# a point of 32 bytes 11 and 32 bytes 22, and a COSE_Sign1 of no payload, whose signature is none under it
+POINT = keys({1: 2, -1: 1, -2: 32 * b"\x11", -3: 32 * b"\x22"})
 UNVERIFIED = bytes.fromhex("d28443a10126a0405840") + 64 * b"\x5a"
 # the claims of RFC 8392 appendix A.1, which expire at 1444064944, and what is printed of them
-CLAIMS = {1: "coap://as.example.com", 2: "erikw", 3: "coap://light.example.com", 4: 1444064944, 5: 1443944944, 6: 1443944944, 7: b"\x0b\x71"}
-ADMITTED = """admitted
-iss 636f61703a2f2f61732e6578616d706c652e636f6d
-sub 6572696b77
-aud 636f61703a2f2f6c696768742e6578616d706c652e636f6d
-exp 1444064944
-nbf 1443944944
-iat 1443944944
-cti 0b71"""
+CLAIMS = {1: "coap://as.example.com", 2: "erikw", 3: "coap://light.example.com", 4: 1444064944, 5: 1443944944,
+          6: 1443944944, 7: b"\x0b\x71"}
+ADMITTED = ("admitted\niss 636f61703a2f2f61732e6578616d706c652e636f6d\nsub 6572696b77\n"
+            "aud 636f61703a2f2f6c696768742e6578616d706c652e636f6d\nexp 1444064944\nnbf 1443944944\niat 1443944944\n"
+            "cti 0b71")
 
 
 class Message(NamedTuple):
@@ -64,7 +65,8 @@ class Message(NamedTuple):
     is_detached: bool = False
 
     def encoded(self):
-        return self.tags + cbor((self.protected, self.unprotected, None if self.is_detached else self.payload, self.auth))
+        payload = None if self.is_detached else self.payload
+        return self.tags + cbor((self.protected, self.unprotected, payload, self.auth))
 
     def authentic(self):
         """What is printed where it is authentic."""
@@ -75,9 +77,18 @@ class Message(NamedTuple):
         """What is printed where its tag or signature isn't that of the rest: the refusal has the place of it."""
         return f"{refused} BadAuth at {len(self.encoded()) - len(cbor(self.auth))}"
 
+    def flipped(self, part, index):
+        """The message with one bit of a part changed."""
+        return self._replace(**{part: flipped(getattr(self, part), index)})
+
+
+def encoded(message):
+    """The bytes of a message, or of what is given instead."""
+    return message.encoded() if isinstance(message, Message) else message
+
 
 def mac0(payload, *, alg=5, secret=SECRET, headers=None, unprotected=None, tags=b"\xd1", data=b"", is_detached=False):
-    """A COSE_Mac0 (RFC 9052 section 6.3) of this payload and external data, with these protected headers beside its algorithm."""
+    """A COSE_Mac0 (RFC 9052 section 6.3) of a payload and external data, with headers beside its algorithm."""
     protected = cbor({1: alg, **(headers or {})})
     tag = mac_messages.tag(alg, secret, protected, data, payload)
     return Message(alg, tags, protected, unprotected or {}, payload, tag, is_detached)
@@ -96,11 +107,6 @@ def public(pair, **members):
     return {1: 2, **named, -1: pair.curve.number, -2: members.get("x", pair.x), -3: members.get("y", pair.y)}
 
 
-def keys(*several):
-    """The option with a key, or with a set of several."""
-    return ["--keys", cbor(several if len(several) > 1 else several[0]).hex()]
-
-
 class Ended(NamedTuple):
     """How a run ended."""
     text: bytes
@@ -108,36 +114,32 @@ class Ended(NamedTuple):
     said: str  # on standard error
 
     def shown(self):
-        text = self.text.decode() if self.text.isascii() else f"{self.text.hex()}\n"
-        return f"{text}[status {self.status}]\n{self.said}"
+        """A text as it is, other bytes in hexadecimal, and of very many the digest."""
+        text = f"{len(self.text)} bytes, {hashlib.sha256(self.text).hexdigest()}"
+        if len(self.text) < 100_000:
+            text = self.text.decode() if self.text.isascii() else self.text.hex()
+        return f"{text}\n[status {self.status}]\n{self.said}"
 
 
 def printed(text):
     """The bytes of these lines, each of which is ended."""
-    return f"{text}\n".encode() if text and isinstance(text, str) else b"" if text == "" else text
+    return text if isinstance(text, bytes) else f"{text}\n".encode() if text else b""
 
 
 def status_of(text):
     """The status of a run that prints this (docs/COMMANDS.md): 2 for a fault, 1 for a refusal, and 0 else."""
-    lines = re.findall(rb"^(?:refused|fault) ", text, re.M) if isinstance(text, bytes) else []
+    lines = re.findall(rb"^(?:refused|fault) ", text, re.M)
     return 2 if b"fault " in lines else 1 if lines else 0
 
 
 def in_sequence(*parts):
-    """What is printed of messages after one another: of each, given with it, and after its place. What begins where no next message can
-    be found is the last one."""
-    lines, place = [], 0
-    for content, text in parts:
-        lines += [f"at {place}", text.replace("LOST", f"ended at {place}: the next message can't be found")]
-        place += len(content)
-    return "\n".join(lines)
-
-
-def met(wanted, seen):
-    """What is seen, where it is of this pattern or nothing is wanted; else what is wanted."""
-    if wanted is None or isinstance(wanted, re.Pattern) and wanted.fullmatch(seen):
-        return seen
-    return wanted.pattern if isinstance(wanted, re.Pattern) else wanted
+    """Messages after one another, and what is printed of them: of each, given with it, after its place. LOST is for the
+    end of the one after which no next message can be found."""
+    given, lines = b"", []
+    for message, text in parts:
+        lines += [f"at {len(given)}", text.replace("LOST", f"ended at {len(given)}: the next message can't be found")]
+        given += encoded(message)
+    return given, "\n".join(lines)
 
 
 def needs(command):
@@ -160,9 +162,40 @@ def preloaded(name, **settings):
     return {**os.environ, "LD_PRELOAD": str(shim(name)), **{name: str(value) for name, value in settings.items()}}
 
 
+def folder_of(test_class):
+    """A new folder, which is there until the tests of the class have ended."""
+    folder = pathlib.Path(tempfile.mkdtemp())
+    test_class.addClassCleanup(shutil.rmtree, folder)
+    return folder
+
+
 class Case(unittest.TestCase):
-    """Tests over runs of the program, which have a folder."""
+    """Tests over runs of the program in a folder, which has these files.
+
+    The words of a run are a text that is split as a shell does, or a list. Beside its methods a class has a test for
+    each behaviour that its table `runs` names, with the arguments of `tried` for each run: a tuple of words, or of
+    inputs, is for each of them, and a dictionary at the end has arguments by name.
+    """
     maxDiff = None
+    files, runs = {}, {}
+
+    def __init_subclass__(cls):
+        for behaviour, runs in vars(cls).get("runs", {}).items():
+            def test(self, runs=runs):
+                self.try_each(runs)
+
+            test.__name__ = "test_" + re.sub(r"\W+", "_", behaviour.lower().replace("'", ""))
+            setattr(cls, test.__name__, test)
+
+    def try_each(self, runs):
+        for words, given, *rest in runs:
+            named = rest.pop() if isinstance(rest[-1], dict) else {}
+            for pair in itertools.product(*(it if type(it) is tuple else [it] for it in (words, given))):
+                self.tried(*pair, *rest, **named)
+
+    def tried(self, *run, **how):
+        """A run of the table: `expect`, unless a class wants more of it."""
+        self.expect(*run, **how)
 
     @classmethod
     def setUpClass(cls):
@@ -172,6 +205,8 @@ class Case(unittest.TestCase):
     def setUp(self):
         self.folder = pathlib.Path(tempfile.mkdtemp())
         self.addCleanup(shutil.rmtree, self.folder)
+        for name, content in self.files.items():
+            self.put(name, content)
 
     def put(self, name, content, mode=0o600):
         """The path of a file in the folder, which gets this content and mode."""
@@ -180,43 +215,58 @@ class Case(unittest.TestCase):
         path.chmod(mode)
         return path
 
-    def program(self, words, given=b"", command=None, closed=(), limits=None, output=subprocess.PIPE, **how):
-        """A run in the folder, of the program or of a command. Its input is bytes in a pipe, or a path or a file that is given instead.
-        Its output may be a path; descriptors are closed, and resources limited."""
+    @contextlib.contextmanager
+    def pipe(self, name, content, mode=0o600):
+        """A pipe in the folder that gets this content. After the block its writer has ended, and it is gone."""
+        os.mkfifo(self.folder / name, mode)
+        writing = threading.Thread(target=(self.folder / name).write_bytes, args=(content,))
+        writing.start()
+        yield
+        writing.join()
+        (self.folder / name).unlink()
+
+    def begin(self, words, **how):
+        """A run of the program that is given its input by a pipe."""
+        streams = {"stdin": subprocess.PIPE, "stdout": subprocess.PIPE, "cwd": self.folder}
+        return subprocess.Popen([PROGRAM, *shlex.split(words)], **{**streams, **how})
+
+    def program(self, words, given=b"", command=(), closed=(), limits=None, output=subprocess.PIPE, **how):
+        """A run of the program or of a command. Its input is bytes in a pipe, or a path or a file that is given
+        instead. Its output may be a path; descriptors are closed, and resources limited."""
         def prepare():
+            for number, stream, flags in (0, given, os.O_RDONLY), (1, output, os.O_WRONLY):
+                if isinstance(stream, pathlib.Path):
+                    os.dup2(os.open(stream, flags), number)
             for kind, most in (limits or {}).items():
                 resource.setrlimit(kind, (most, most))
             for number in closed:
                 os.close(number)
 
-        with contextlib.ExitStack() as opened:
-            def stream(path, flags):
-                number = os.open(path, flags)
-                opened.callback(os.close, number)
-                return number
-
-            if isinstance(given, bytes):
-                how["input"] = given
-            else:
-                how["stdin"] = stream(given, os.O_RDONLY) if isinstance(given, pathlib.Path) else given
-            how["stdout"] = stream(output, os.O_WRONLY) if isinstance(output, pathlib.Path) else output
-            how = {"stderr": subprocess.PIPE, "cwd": self.folder, "executable": None if command else PROGRAM, **how}
-            ended = subprocess.run([*(command or ["cosecmd"]), *words], preexec_fn=prepare, check=False, **how)
+        given = encoded(given)
+        streams = {"input" if isinstance(given, bytes) else "stdin": given, "stdout": output, "stderr": subprocess.PIPE}
+        streams = {name: None if isinstance(it, pathlib.Path) else it for name, it in streams.items()}
+        how = {"cwd": self.folder, "executable": None if command else PROGRAM, "preexec_fn": prepare, **streams, **how}
+        words = [*(command or ["cosecmd"]), *(shlex.split(words) if isinstance(words, str) else words)]
+        ended = subprocess.run(words, check=False, **how)
         return Ended(ended.stdout or b"", ended.returncode, (ended.stderr or b"").decode())
 
     def expect(self, words, given, text, status=None, said=None, what="", **how):
-        """A run prints this, lines or bytes or what a pattern has; it ends with this status, or with that of the text; and it says
-        this on standard error. Of what is None anything is taken."""
-        wanted = printed(text)
+        """A run prints this, lines or bytes or what a pattern has; it ends with this status, or with that of the text;
+        and it says this on standard error. Of what is None anything is taken."""
+        def met(wanted, seen):
+            is_met = wanted is None or isinstance(wanted, re.Pattern) and wanted.fullmatch(seen)
+            return seen if is_met else wanted.pattern if isinstance(wanted, re.Pattern) else wanted
+
         ended = self.program(words, given, **how)
-        with self.subTest(what, words=str([str(word)[:200] for word in words]), given=str(given)[:200]):
-            if status is None:
-                status = ended.status if text is None else status_of(wanted)
+        wanted = text if text is None or isinstance(text, re.Pattern) else printed(text)
+        if status is None:
+            status = ended.status if text is None else status_of(wanted) if isinstance(wanted, bytes) else 0
+        with self.subTest(what, words=str(words)[:400], given=str(given)[:200]):
             self.assertEqual(ended.shown(), Ended(met(wanted, ended.text), status, met(said, ended.said)).shown())
         return ended
 
     def each_refusal(self, words, given, **how):
-        """Runs of which each request for memory is refused in turn, and then one of which none is, each with whether one was."""
+        """Runs of which each request for memory is refused in turn, and then one of which none is: whether one was."""
         for nth in itertools.count(1):
             with tempfile.TemporaryFile() as mark:
                 environment = preloaded("refuse_nth", REFUSE_NTH=nth, REFUSE_MARK=mark.fileno())

@@ -15,8 +15,8 @@ class Hardening(Case):
         return subprocess.run(["readelf", option, path], stdout=subprocess.PIPE, check=True, text=True).stdout
 
     def look(self, path):
-        """It has no fixed address, its table of addresses is written only while it is loaded (full RELRO), its stack and data can't be
-        executed, and it has no path of its own for libraries."""
+        """It has no fixed address, its table of addresses is written only while it is loaded (full RELRO), its stack
+        and data can't be executed, and it has no path of its own for libraries."""
         self.assertRegex(self.read("-hW", path), r"(?m)^ *Type: *DYN ")
         segments, dynamic = self.read("-lW", path), self.read("-dW", path)
         self.assertRegex(segments, r"(?m)^ *GNU_RELRO ")
@@ -32,6 +32,7 @@ class Hardening(Case):
     @needs("cc")
     @unittest.skipUnless((ARCHIVES / "libcose_c.a").exists(), f"there is no archive in {ARCHIVES}")
     def test_the_shared_object_can_be_moved_and_its_data_is_no_code(self):
-        subprocess.run([TOP / "install", "--prefix", self.folder], env={**os.environ, "COSE_LIB_DIR": str(ARCHIVES)}, check=True,
-                       stdout=subprocess.DEVNULL)
+        environment = {**os.environ, "COSE_LIB_DIR": str(ARCHIVES)}
+        words = [TOP / "install", "--prefix", self.folder]
+        subprocess.run(words, env=environment, check=True, stdout=subprocess.DEVNULL)
         self.look(self.folder / "lib" / "libcose.so")
