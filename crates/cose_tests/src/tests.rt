@@ -13,7 +13,7 @@ ghost use Rattle.std.specs.Prelude.{◌≡◌, ◌≤◌, length, true};
 
 use cose_cwt::{Audience, Policy};
 use cose_map::{Reason, Refusal};
-use cose_msg::{Context, KeySet, Wanted};
+use cose_msg::{Context, Wanted};
 use std::fmt::Debug;
 use std::process::Abort;
 
@@ -54,8 +54,8 @@ const CONFIRMING: &[u8] = &[
 /// The symmetric key `Jefe` (RFC 4231 section 4.3), which is also the key set of that key alone.
 const JEFE: &[u8] = b"\xa2\x01\x04\x20\x44Jefe";
 
-/// The context in which a token is verified with these keys.
-fn context(keys: KeySet<'_>) -> Context<'_>
+/// The context in which a token is verified with these keys, a set or a table.
+fn context<'k, K>(keys: K) -> Context<'k, K>
     ensures external { length result.aad.now ≤ 65535 }
     ensures cwt { result.cwt ≡ true }
     ensures limit { result.payload_limit ≡ 4096 }

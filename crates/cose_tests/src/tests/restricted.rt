@@ -1,14 +1,9 @@
 //! Messages under the keys of a set that a caller allows.
 
-ghost use Rattle.std.specs.Prelude.{◌≡◌, ◌≤◌, length, true};
-
-use crate::tests::{TOKEN, at, equal, refusal};
+use crate::tests::{TOKEN, at, context, equal, refusal};
 use cose_cwt::{CwtStop, verify_cwt};
 use cose_map::{Reason, Restrictions};
-use cose_msg::{
-    Context, KeyTable, Never, Nothing, SliceIntake, Status, Store, Verdict, Verifier, Wanted,
-    verify,
-};
+use cose_msg::{KeyTable, Never, Nothing, SliceIntake, Status, Store, Verdict, Verifier, verify};
 use std::process::Abort;
 use std::test::Fail;
 
@@ -18,25 +13,9 @@ const KEYS: &[u8] = b"\x82\xa3\x01\x04\x03\x05\x20\x44Jefe\xa2\x01\x04\x20\x43Je
 /// A table of these keys without those that aren't allowed.
 type Table = KeyTable<'static, 2>;
 
-/// What the token is verified under.
-fn under(keys: Table) -> Context<'static, Table>
-    ensures external { length result.aad.now ≤ 65535 }
-    ensures cwt { result.cwt ≡ true }
-    ensures limit { result.payload_limit ≡ 4096 }
-{
-    Context {
-        keys,
-        aad: b"",
-        wanted: Wanted::Tagged,
-        cwt: true,
-        understood: &[],
-        payload_limit: 4096,
-    }
-}
-
 /// The refusal of the token under these keys by `verify`.
 fn refused_by_verify(keys: Table) -> Option<cose_map::Refusal> {
-    let mut verifier = Verifier::<64, 4, Table>::new(under(keys));
+    let mut verifier = Verifier::<64, 4, Table>::new(context(keys));
     let mut intake = SliceIntake::new(TOKEN, 64);
     match verify::<64, 64, 4, Table, SliceIntake, Nothing, Never>(
         &mut verifier,
@@ -51,13 +30,13 @@ fn refused_by_verify(keys: Table) -> Option<cose_map::Refusal> {
 
 /// Whether the token is complete once it is fed under these keys.
 fn is_fed(keys: Table) -> bool {
-    let mut verifier = Verifier::<64, 4, Table>::new(under(keys));
+    let mut verifier = Verifier::<64, 4, Table>::new(context(keys));
     verifier.feed(TOKEN).status == Status::Complete
 }
 
 /// Why the token has no claims under these keys.
 fn stop_of(keys: Table) -> Option<CwtStop> {
-    let mut verifier = Verifier::<64, 4, Table>::new(under(keys));
+    let mut verifier = Verifier::<64, 4, Table>::new(context(keys));
     let mut intake = SliceIntake::new(TOKEN, 64);
     let mut store: Store<4096> = Store::new();
     verify_cwt::<64, 64, 4, 4096, Table, SliceIntake, Never>(

@@ -32,7 +32,7 @@ impl Read for FailingReader {
     }
 }
 
-/// Verifies the token from a reader that fails at one of its reads.
+/// Verifies the token from a reader that fails at one of its reads: the call stops, and the store holds nothing.
 fn stops_at(rt: &impl Abort, keys: KeySet<'_>, fails_at: usize) {
     let mut verifier: Verifier<64, 4> = Verifier::new(context(keys));
     let mut intake = ReadIntake::new(FailingReader { reads: 0, fails_at });
@@ -45,6 +45,7 @@ fn stops_at(rt: &impl Abort, keys: KeySet<'_>, fails_at: usize) {
         &at(1_444_064_943, 0),
     );
     equal(rt, token.err(), Some(CwtStop::Stopped(Stop::Intake)));
+    equal(rt, store.bytes(), b"".as_slice());
 }
 
 #[test]
@@ -145,20 +146,6 @@ fn holds_no_refused_payload(rt: HostRuntime) -> Result<(), Fail> {
 /// The payload has come whole when the reader fails, at the tag.
 #[test]
 fn holds_nothing_after_a_failure(rt: HostRuntime) -> Result<(), Fail> {
-    let mut verifier: Verifier<64, 4> = Verifier::new(context(KeySet::read(JEFE)?));
-    let mut intake = ReadIntake::new(FailingReader {
-        reads: 0,
-        fails_at: 100,
-    });
-    let mut store: Store<4096> = Store::new();
-    let token = verify_cwt::<64, 64, 4, 4096, _, ReadIntake<FailingReader>, Never>(
-        &mut verifier,
-        &mut intake,
-        &mut store,
-        &Never,
-        &at(1_444_064_943, 0),
-    );
-    equal(&rt, token.err(), Some(CwtStop::Stopped(Stop::Intake)));
-    equal(&rt, store.bytes(), b"".as_slice());
+    stops_at(&rt, KeySet::read(JEFE)?, 100);
     Ok(())
 }
