@@ -64,7 +64,7 @@ fn key_of(label: &Label<'_>) -> Option<u128>
     }
 }
 
-/// A set of labels: at most 51 with a key and 12 without, 1.2 KiB in all.
+/// A set of labels: at most 24 with a key and 6 without, 600 bytes in all.
 #[derive(Drop)]
 pub(crate) struct Labels<'a> {
     pub(crate) keys: Keys,

@@ -13,4 +13,4 @@ abbrev pub holds : Labels → LabelValue → Bool
 holds labels name = is_held (key_of name) name labels.keys.sorted.items (labels_in labels.others)
 
 abbrev pub has_room : Labels → Bool
-has_room labels = nat_lt (length labels.keys.sorted.items) 51 && nat_lt (length (labels_in labels.others)) 12
+has_room labels = nat_lt (length labels.keys.sorted.items) 24 && nat_lt (length (labels_in labels.others)) 6

@@ -5,10 +5,10 @@ ghost use Rattle.cose_map.specs.Map.Labels as spec;
 
 use arrayvec::ArrayVec;
 
-/// At most 51 numbers.
+/// At most 24 numbers.
 #[derive(Drop)]
 pub(crate) struct Keys {
-    pub(crate) sorted: ArrayVec<u128, 51>,
+    pub(crate) sorted: ArrayVec<u128, 24>,
     /// Each is greater than the one before it.
     pub ghost rising: { spec.rises sorted.items ≡ true },
 }
@@ -40,9 +40,9 @@ impl Keys {
 
     /// Whether there is room for one more.
     pub(crate) fn has_room(&self) -> bool
-        ensures { result ≡ nat_lt (length self.now.sorted.items) 51 }
+        ensures { result ≡ nat_lt (length self.now.sorted.items) 24 }
     {
-        self.sorted.len() < 51
+        self.sorted.len() < 24
     }
 
     /// Whether a number is in the set.
@@ -54,7 +54,7 @@ impl Keys {
 
     /// Adds a number.
     pub(crate) fn add(&mut self, key: u128)
-        requires room { nat_lt (length self.old.sorted.items) 51 ≡ true }
+        requires room { nat_lt (length self.old.sorted.items) 24 ≡ true }
         ensures added { (other : ℕ) → spec.is_in other self.new.sorted.items
             ≡ ((other == key) || spec.is_in other self.old.sorted.items) }
     {

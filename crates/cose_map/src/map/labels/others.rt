@@ -11,10 +11,10 @@ use crate::label::Label;
 use crate::map::labels::others::other::Other;
 use arrayvec::ArrayVec;
 
-/// At most 12 labels.
+/// At most 6 labels.
 #[derive(Drop)]
 pub(crate) struct Others<'a> {
-    pub(crate) labels: ArrayVec<Other<'a>, 12>,
+    pub(crate) labels: ArrayVec<Other<'a>, 6>,
     /// No label is in it twice.
     pub ghost distinct: { spec.differ (map (λ other. label_value other.label) labels.items)
         ≡ true },
@@ -56,9 +56,9 @@ impl<'a> Others<'a> {
 
     /// Whether there is room for one more.
     pub(crate) fn has_room(&self) -> bool
-        ensures { result ≡ nat_lt (length (labels_in self.now)) 12 }
+        ensures { result ≡ nat_lt (length (labels_in self.now)) 6 }
     {
-        self.labels.len() < 12
+        self.labels.len() < 6
     }
 
     /// Whether a label is in the set.
@@ -70,7 +70,7 @@ impl<'a> Others<'a> {
 
     /// Adds a label.
     pub(crate) fn add(&mut self, name: Label<'a>)
-        requires room { nat_lt (length (labels_in self.old)) 12 ≡ true }
+        requires room { nat_lt (length (labels_in self.old)) 6 ≡ true }
         ensures added { (other : LabelValue) → spec.is_among other (labels_in self.new)
             ≡ (same_label other (label_value name.entry)
             || spec.is_among other (labels_in self.old)) }
