@@ -6,7 +6,7 @@ ghost use Rattle.cose_msg.specs.Verifier.{is_detached};
 
 use crate::elsewhere;
 use crate::expected::Expected;
-use crate::fields::{Difference, Way, bytes, holds, integer, number, object};
+use crate::fields::{Difference, Way, bytes, holds, integer, limits, object, payload_length};
 use crate::messages::{CUTS, decided};
 use crate::setting::Setting;
 use crate::streams::{Comparison, Signature};
@@ -17,21 +17,43 @@ use serde_json::Value;
 use std::alloc::Global;
 
 /// A message and its payload, with what is expected of both.
-#[derive(Clone, Copy)]
-struct Case<'c, 'v> {
-    message: &'c [u8],
-    payload: &'c [u8],
+#[derive(Drop)]
+struct Case<'v> {
+    message: Vec<u8>,
+    payload: Vec<u8>,
     /// The stated length of the payload.
     length: u64,
     expected: Expected<'v>,
     /// How many bytes of the message decide it.
     taken: u64,
-    /// The bytes of the payload that are taken.
-    came: &'c [u8],
-    signature: &'c Signature,
+    /// How many bytes of the payload are taken.
+    payload_taken: u64,
+    signature: Signature,
 }
 
-impl Case<'_, '_> {
+impl<'v> Case<'v> {
+    /// The message and the payload of a test.
+    fn read(alloc: Global, length: u64, test: &'v Value) -> Self {
+        let result = object(test, "result");
+        Case {
+            message: bytes(alloc, test, "message"),
+            payload: bytes(alloc, test, "payload"),
+            length,
+            expected: Expected::read(result),
+            taken: integer(result, "taken"),
+            payload_taken: integer(result, "payloadTaken"),
+            signature: Signature::read(alloc, test),
+        }
+    }
+
+    /// The bytes of the payload that are taken.
+    fn came(&self) -> &[u8] {
+        self.payload
+            .as_slice()
+            .get(..self.payload_taken as usize)
+            .unwrap_or(&[])
+    }
+
     /// Whether this is the expected verdict, after so many bytes of the message and these of the payload.
     fn is(&self, verdict: Verdict, taken: u64, came: &Comparison<'_>) -> bool {
         let is_verdict = self.expected.is(verdict, self.length, taken);
@@ -43,7 +65,7 @@ impl Case<'_, '_> {
 fn verified<'k, const H: usize, const D: usize, K: Keys<'k>>(
     verifier: &mut Verifier<'k, H, D, K>,
     message: &[u8],
-    case: &Case<'_, '_>,
+    case: &Case<'_>,
     cut: usize,
     came: &mut Comparison<'_>,
 ) -> Option<Verdict>
@@ -51,27 +73,27 @@ fn verified<'k, const H: usize, const D: usize, K: Keys<'k>>(
     requires some { 0 < cut }
 {
     let mut message = SliceIntake::new(message, cut);
-    let mut payload = SliceIntake::new(case.payload, cut);
+    let mut payload = SliceIntake::new(case.payload.as_slice(), cut);
     verify_detached::<4_096, H, D, _, _, _, _, _>(
         verifier,
         &mut message,
         &mut payload,
         came,
-        case.signature,
+        &case.signature,
     ).ok()
 }
 
 /// Whether `verify_detached` gives what is expected.
 fn is_verified<'k, const H: usize, const D: usize, K: Keys<'k>>(
     verifier: &mut Verifier<'k, H, D, K>,
-    case: &Case<'_, '_>,
+    case: &Case<'_>,
     cut: usize,
 ) -> bool
     requires detached { is_detached verifier.old ≡ true }
     requires some { 0 < cut }
 {
-    let mut came = Comparison::new(case.came);
-    match verified(verifier, case.message, case, cut, &mut came) {
+    let mut came = Comparison::new(case.came());
+    match verified(verifier, case.message.as_slice(), case, cut, &mut came) {
         Some(verdict) => case.is(verdict, verifier.taken(), &came),
         None => false,
     }
@@ -116,17 +138,21 @@ fn feed_payload<'k, const H: usize, const D: usize, K: Keys<'k>>(
 /// Whether feeding gives what is expected where the message and its payload come in pieces of at most `cut` bytes.
 fn is_fed<'k, const H: usize, const D: usize, K: Keys<'k>>(
     verifier: &mut Verifier<'k, H, D, K>,
-    case: &Case<'_, '_>,
+    case: &Case<'_>,
     cut: usize,
 ) -> bool
     requires verifies { is_inspecting verifier.old ≡ false }
     requires some { 0 < cut }
 {
-    let mut came = Comparison::new(case.came);
-    let used = feed(verifier, case.message, cut);
-    feed_payload(verifier, case.payload, cut, &mut came);
-    feed(verifier, case.message.get(used..).unwrap_or(&[]), cut);
-    match decided(verifier, case.signature) {
+    let mut came = Comparison::new(case.came());
+    let used = feed(verifier, case.message.as_slice(), cut);
+    feed_payload(verifier, case.payload.as_slice(), cut, &mut came);
+    feed(
+        verifier,
+        case.message.as_slice().get(used..).unwrap_or(&[]),
+        cut,
+    );
+    match decided(verifier, &case.signature) {
         Some(verdict) => case.is(verdict, verifier.taken(), &came),
         None => false,
     }
@@ -136,14 +162,20 @@ fn is_fed<'k, const H: usize, const D: usize, K: Keys<'k>>(
 /// of at most `cut` bytes.
 fn is_stated<'k, const H: usize, const D: usize, K: Keys<'k>>(
     verifier: &mut Verifier<'k, H, D, K>,
-    case: &Case<'_, '_>,
+    case: &Case<'_>,
     cut: usize,
 ) -> bool
     requires some { 0 < cut }
 {
-    let mut came = Comparison::new(case.came);
-    let hash = elsewhere::feed_detached(verifier, case.message, case.payload, cut, &mut came);
-    match elsewhere::stated(verifier, hash, case.signature) {
+    let mut came = Comparison::new(case.came());
+    let hash = elsewhere::feed_detached(
+        verifier,
+        case.message.as_slice(),
+        case.payload.as_slice(),
+        cut,
+        &mut came,
+    );
+    match elsewhere::stated(verifier, hash, &case.signature) {
         Some(verdict) => case.is(verdict, verifier.taken(), &came),
         None => false,
     }
@@ -152,13 +184,13 @@ fn is_stated<'k, const H: usize, const D: usize, K: Keys<'k>>(
 /// Whether a prefix of the message is Truncated at its end, with the whole payload next to it.
 fn is_truncated<'k, const H: usize, const D: usize, K: Keys<'k>>(
     verifier: &mut Verifier<'k, H, D, K>,
-    case: &Case<'_, '_>,
+    case: &Case<'_>,
     end: usize,
 ) -> bool
     requires { is_detached verifier.old ≡ true }
 {
-    let prefix = case.message.get(..end).unwrap_or(&[]);
-    let mut came = Comparison::new(case.came);
+    let prefix = case.message.as_slice().get(..end).unwrap_or(&[]);
+    let mut came = Comparison::new(case.came());
     let truncated = Verdict::Refused(Refusal {
         reason: Reason::Truncated,
         place: end as u64,
@@ -166,47 +198,119 @@ fn is_truncated<'k, const H: usize, const D: usize, K: Keys<'k>>(
     verified(verifier, prefix, case, 64, &mut came) == Some(truncated)
 }
 
-/// A verifier under the keys of a set.
-fn under_set<'k, const H: usize, const D: usize>(
+/// A verifier under these keys.
+fn under<'k, const H: usize, const D: usize, K: Keys<'k>>(
     setting: &'k Setting<'_>,
-    set: KeySet<'k>,
+    keys: K,
     length: u64,
-) -> Verifier<'k, H, D>
+) -> Verifier<'k, H, D, K>
     requires some_room { 16 ≤ H }
     requires limit { H ≤ 65535 }
     requires nesting { D ≤ 32 }
     ensures verifies { is_inspecting result ≡ false }
     ensures detached { is_detached result ≡ true }
 {
-    Verifier::detached(setting.context(set), length)
+    Verifier::detached(setting.context(keys), length)
+}
+
+/// Runs a message through `verify_detached` under these keys, in pieces of at most `cut` bytes.
+fn run_verify<'k, const H: usize, const D: usize, K: Keys<'k> + Drop>(
+    setting: &'k Setting<'_>,
+    keys: K,
+    case: &Case<'_>,
+    cut: usize,
+) -> Result<(), Difference>
+    requires some_room { 16 ≤ H }
+    requires limit { H ≤ 65535 }
+    requires nesting { D ≤ 32 }
+    requires some { 0 < cut }
+{
+    let mut verifier = under::<H, D, K>(setting, keys, case.length);
+    holds(is_verified(&mut verifier, case, cut), Way::Verify)
+}
+
+/// Feeds a message and its payload under a key set, in pieces of at most `cut` bytes.
+fn run_feed<'k, const H: usize, const D: usize>(
+    setting: &'k Setting<'_>,
+    set: KeySet<'k>,
+    case: &Case<'_>,
+    cut: usize,
+) -> Result<(), Difference>
+    requires some_room { 16 ≤ H }
+    requires limit { H ≤ 65535 }
+    requires nesting { D ≤ 32 }
+    requires some { 0 < cut }
+{
+    let mut verifier = under::<H, D, KeySet<'k>>(setting, set, case.length);
+    holds(is_fed(&mut verifier, case, cut), Way::Feed)
+}
+
+/// Runs a message that the caller authenticates under a key set, in pieces of at most `cut` bytes.
+fn run_elsewhere<'k, const H: usize, const D: usize>(
+    setting: &'k Setting<'_>,
+    set: KeySet<'k>,
+    case: &Case<'_>,
+    cut: usize,
+) -> Result<(), Difference>
+    requires some_room { 16 ≤ H }
+    requires limit { H ≤ 65535 }
+    requires nesting { D ≤ 32 }
+    requires some { 0 < cut }
+{
+    let mut asking = Verifier::<H, D>::elsewhere_detached(setting.context(set), case.length);
+    holds(is_stated(&mut asking, case, cut), Way::Elsewhere)
+}
+
+/// Runs a prefix of a message under a key set.
+fn run_prefix<'k, const H: usize, const D: usize>(
+    setting: &'k Setting<'_>,
+    set: KeySet<'k>,
+    case: &Case<'_>,
+    end: usize,
+) -> Result<(), Difference>
+    requires some_room { 16 ≤ H }
+    requires limit { H ≤ 65535 }
+    requires nesting { D ≤ 32 }
+{
+    let mut verifier = under::<H, D, KeySet<'k>>(setting, set, case.length);
+    holds(is_truncated(&mut verifier, case, end), Way::Slice)
+}
+
+/// Runs a message through each way that takes pieces of at most `cut` bytes under a key set.
+fn run_cut<'k, const H: usize, const D: usize>(
+    setting: &'k Setting<'_>,
+    set: KeySet<'k>,
+    case: &Case<'_>,
+    cut: usize,
+) -> Result<(), Difference>
+    requires some_room { 16 ≤ H }
+    requires limit { H ≤ 65535 }
+    requires nesting { D ≤ 32 }
+    requires some { 0 < cut }
+{
+    run_verify::<H, D, KeySet<'k>>(setting, set, case, cut)?;
+    run_feed::<H, D>(setting, set, case, cut)?;
+    run_elsewhere::<H, D>(setting, set, case, cut)
 }
 
 /// Runs a message through each way under a key set.
 fn run_under_set<'k, const H: usize, const D: usize>(
     setting: &'k Setting<'_>,
     set: KeySet<'k>,
-    case: &Case<'_, '_>,
+    case: &Case<'_>,
 ) -> Result<(), Difference>
     requires some_room { 16 ≤ H }
     requires limit { H ≤ 65535 }
     requires nesting { D ≤ 32 }
 {
     'cuts: for cut in CUTS {
-        let mut verifier = under_set::<H, D>(setting, set, case.length);
-        holds(is_verified(&mut verifier, case, cut), Way::Verify)?;
-        let mut fed = under_set::<H, D>(setting, set, case.length);
-        holds(is_fed(&mut fed, case, cut), Way::Feed)?;
-        let mut asking = Verifier::<H, D>::elsewhere_detached(setting.context(set), case.length);
-        if cut > 0 {
-            holds(is_stated(&mut asking, case, cut), Way::Elsewhere)?;
-        }
+        run_cut::<H, D>(setting, set, case, cut)?;
     }
     if !case.expected.is_authentic() {
         return Ok(());
     }
     'prefixes: for end in 0..case.message.len().min(case.taken as usize) {
-        let mut verifier = under_set::<H, D>(setting, set, case.length);
-        holds(is_truncated(&mut verifier, case, end), Way::Slice)?;
+        run_prefix::<H, D>(setting, set, case, end)?;
     }
     Ok(())
 }
@@ -214,53 +318,38 @@ fn run_under_set<'k, const H: usize, const D: usize>(
 /// Runs a message at a header limit and a nesting, under a key set and a reference to a table of keys.
 fn run_at<'k, const H: usize, const D: usize>(
     setting: &'k Setting<'_>,
-    keys: &'k [u8],
-    case: &Case<'_, '_>,
+    case: &Case<'_>,
 ) -> Result<(), Difference>
     requires some_room { 16 ≤ H }
     requires limit { H ≤ 65535 }
     requires nesting { D ≤ 32 }
 {
-    let (Ok(set), Ok(table)) = (KeySet::read(keys), KeyTable::<16>::read(keys)) else {
+    let Ok(table) = KeyTable::<16>::read(setting.keys()) else {
         return Err(Difference::Setting);
     };
-    run_under_set::<H, D>(setting, set, case)?;
-    let mut shared = Verifier::<H, D, &KeyTable<'_, 16>>::detached(
-        setting.context(&table),
-        case.length,
-    );
-    holds(is_verified(&mut shared, case, 64), Way::Verify)
+    run_under_set::<H, D>(setting, setting.set()?, case)?;
+    run_verify::<H, D, &KeyTable<'_, 16>>(setting, &table, case, 64)
+}
+
+/// Runs a message at the limits of its group.
+fn run_limits(setting: &Setting<'_>, group: &Value, case: &Case<'_>) -> Result<(), Difference> {
+    if case.payload_taken as usize > case.payload.len() {
+        return Err(Difference::Setting);
+    }
+    match limits(group) {
+        (16, 1) => run_at::<16, 1>(setting, case),
+        (1_024, 4) => run_at::<1_024, 4>(setting, case),
+        (1_024, 8) => run_at::<1_024, 8>(setting, case),
+        _ => Err(Difference::Setting),
+    }
 }
 
 /// Runs a test.
 pub fn run_test(alloc: Global, group: &Value, test: &Value) -> Result<(), Difference> {
+    let Some(length) = payload_length(group) else {
+        return Err(Difference::Setting);
+    };
     let setting = Setting::read(alloc, group);
-    let keys = bytes(alloc, group, "keys");
-    let Ok(length) = u64::try_from(number(group, "payloadLength")) else {
-        return Err(Difference::Setting);
-    };
-    let message = bytes(alloc, test, "message");
-    let payload = bytes(alloc, test, "payload");
-    let signature = Signature::read(alloc, test);
-    let result = object(test, "result");
-    let count = integer(result, "payloadTaken");
-    let Some(came) = payload.as_slice().get(..count as usize) else {
-        return Err(Difference::Setting);
-    };
-    let case = Case {
-        message: message.as_slice(),
-        payload: payload.as_slice(),
-        length,
-        expected: Expected::read(result),
-        taken: integer(result, "taken"),
-        came,
-        signature: &signature,
-    };
-    let keys = keys.as_slice();
-    match (integer(group, "headerLimit"), integer(group, "nesting")) {
-        (16, 1) => run_at::<16, 1>(&setting, keys, &case),
-        (1_024, 4) => run_at::<1_024, 4>(&setting, keys, &case),
-        (1_024, 8) => run_at::<1_024, 8>(&setting, keys, &case),
-        _ => Err(Difference::Setting),
-    }
+    let case = Case::read(alloc, length, test);
+    run_limits(&setting, group, &case)
 }

@@ -69,6 +69,16 @@ pub fn number(object: &Value, name: &str) -> i128 {
     text(object, name).parse::<i128>().unwrap_or(i128::MIN)
 }
 
+/// The length of a payload, where it is below 2^64.
+pub fn payload_length(object: &Value) -> Option<u64> {
+    u64::try_from(number(object, "payloadLength")).ok()
+}
+
+/// The greatest header and the nesting that a group allows.
+pub fn limits(group: &Value) -> (u64, u64) {
+    (integer(group, "headerLimit"), integer(group, "nesting"))
+}
+
 /// A truth value.
 pub fn boolean(object: &Value, name: &str) -> Option<bool> {
     object.get(name).and_then(Value::as_bool)

@@ -4,14 +4,13 @@ ghost use Rattle.std.specs.Prelude.{◌≤◌};
 
 use crate::expected::Refused;
 use crate::fields::{
-    Difference, Way, boolean, bytes, holds, integer, object, optional_bytes, text,
+    Difference, Way, boolean, bytes, holds, integer, limits, object, optional_bytes, text,
 };
 use crate::setting::{Setting, label};
 use crate::streams::Comparison;
 use cose_msg::{
-    Context, FrontPieces, FurtherAlg, FurtherAsk, FurtherVerified, FurtherVerifier, KeySet, Label,
-    OkpKey, Reason, Refusal, ask_further, ask_further_detached, verify_further,
-    verify_further_detached,
+    Context, FrontPieces, FurtherAlg, FurtherAsk, FurtherVerified, FurtherVerifier, Label, OkpKey,
+    Reason, Refusal, ask_further, ask_further_detached, verify_further, verify_further_detached,
 };
 use serde_json::Value;
 use std::alloc::Global;
@@ -36,23 +35,43 @@ impl FurtherVerifier for Says {
 }
 
 /// A message with what is expected of it.
-#[derive(Clone, Copy)]
-struct Case<'c, 'v> {
-    message: &'c [u8],
+#[derive(Drop)]
+struct Case<'v> {
+    message: Vec<u8>,
     /// The payload, where it is detached.
-    detached: Option<&'c [u8]>,
+    detached: Option<Vec<u8>>,
     /// The public key, the structure and the signature of which the caller's verifier is asked.
-    x: &'c [u8],
-    structure: &'c [u8],
-    signature: &'c [u8],
+    x: Vec<u8>,
+    structure: Vec<u8>,
+    signature: Vec<u8>,
     /// Whether the signature is good, where it is asked.
     answer: Option<bool>,
     expected: &'v Value,
     /// The payload of an authentic message.
-    payload: &'c [u8],
+    payload: Vec<u8>,
 }
 
-impl Case<'_, '_> {
+impl<'v> Case<'v> {
+    /// The message of a test.
+    fn read(alloc: Global, test: &'v Value) -> Self {
+        let expected = object(test, "result");
+        Case {
+            message: bytes(alloc, test, "message"),
+            detached: optional_bytes(alloc, test, "payload"),
+            x: bytes(alloc, test, "x"),
+            structure: bytes(alloc, test, "structure"),
+            signature: bytes(alloc, test, "signature"),
+            answer: boolean(test, "holds"),
+            expected,
+            payload: bytes(alloc, expected, "payload"),
+        }
+    }
+
+    /// The payload, where it is detached.
+    fn detached(&self) -> Option<&[u8]> {
+        self.detached.as_ref().map(Vec::as_slice)
+    }
+
     /// Whether the message is authentic.
     fn is_authentic(&self) -> bool {
         text(self.expected, "verdict") == "authentic"
@@ -63,7 +82,7 @@ impl Case<'_, '_> {
         match verified {
             FurtherVerified::Authentic { alg, payload } => {
                 let is_alg = label(self.expected, "alg") == Some(Label::Int(alg.number()));
-                self.is_authentic() && is_alg && payload == self.payload
+                self.is_authentic() && is_alg && payload == self.payload.as_slice()
             }
             FurtherVerified::Refused(refusal) => {
                 !self.is_authentic() && Refused::read(self.expected).is(refusal)
@@ -71,15 +90,20 @@ impl Case<'_, '_> {
         }
     }
 
+    /// Whether the key of an authentic message stands where it is expected.
+    fn is_place(&self, place: u64) -> bool {
+        !self.is_authentic() || place == integer(self.expected, "index")
+    }
+
     /// Whether what is asked is what is expected: the key and its place, the structure and the signature.
     fn asks(&self, ask: &FurtherAsk<'_>) -> bool {
-        let mut structure = Comparison::new(self.structure);
+        let mut structure = Comparison::new(self.structure.as_slice());
         for index in 0..FrontPieces::COUNT {
             structure.compare(ask.front.piece(index));
         }
         structure.compare(ask.payload);
-        let is_place = !self.is_authentic() || ask.place as u64 == integer(self.expected, "index");
-        is_place && structure.is_whole() && ask.key.x == self.x && ask.signature == self.signature
+        let is_key = ask.key.x == self.x.as_slice() && self.is_place(ask.place as u64);
+        is_key && structure.is_whole() && ask.signature == self.signature.as_slice()
     }
 
     /// Whether asking, and then what the row says of the signature, gives what is expected.
@@ -112,7 +136,7 @@ fn verified<'c, const H: usize, const D: usize>(
 /// Whether each shorter prefix of an authentic message is Truncated at its end.
 fn has_truncated_prefixes<'c, const H: usize, const D: usize>(
     context: &Context<'c>,
-    case: &Case<'c, '_>,
+    case: &'c Case<'_>,
 ) -> bool
     requires nesting { D ≤ 32 }
 {
@@ -121,63 +145,72 @@ fn has_truncated_prefixes<'c, const H: usize, const D: usize>(
             reason: Reason::Truncated,
             place: end as u64,
         });
-        let prefix = case.message.get(..end).unwrap_or(&[]);
-        if verified::<H, D>(context, case.detached, prefix, true) != truncated {
+        let prefix = case.message.as_slice().get(..end).unwrap_or(&[]);
+        if verified::<H, D>(context, case.detached(), prefix, true) != truncated {
             return false;
         }
     }
     true
 }
 
+/// Whether a caller that is asked about the signature gets what is expected.
+fn is_elsewhere<'c, const H: usize, const D: usize>(
+    context: &Context<'c>,
+    case: &'c Case<'_>,
+) -> bool
+    requires nesting { D ≤ 32 }
+{
+    let message = case.message.as_slice();
+    let asked = match case.detached() {
+        Some(payload) => ask_further_detached::<H, D>(context, payload, message),
+        None => ask_further::<H, D>(context, message),
+    };
+    case.is_asked(asked)
+}
+
+/// Whether a verifier that says what the row says gives what is expected.
+fn is_verified<'c, const H: usize, const D: usize>(
+    context: &Context<'c>,
+    case: &'c Case<'_>,
+) -> bool
+    requires nesting { D ≤ 32 }
+{
+    let answer = case.answer != Some(false);
+    case.is(verified::<H, D>(context, case.detached(), case.message.as_slice(), answer))
+}
+
 /// Runs a message at a header limit and a nesting.
 fn run_at<'c, const H: usize, const D: usize>(
     context: &Context<'c>,
-    case: &Case<'c, '_>,
+    case: &'c Case<'_>,
 ) -> Result<(), Difference>
     requires nesting { D ≤ 32 }
 {
-    let asked = match case.detached {
-        Some(payload) => ask_further_detached::<H, D>(context, payload, case.message),
-        None => ask_further::<H, D>(context, case.message),
-    };
-    holds(case.is_asked(asked), Way::Elsewhere)?;
-    let answer = case.answer != Some(false);
-    let result = verified::<H, D>(context, case.detached, case.message, answer);
-    holds(case.is(result), Way::Slice)?;
+    holds(is_elsewhere::<H, D>(context, case), Way::Elsewhere)?;
+    holds(is_verified::<H, D>(context, case), Way::Slice)?;
     if case.is_authentic() {
         return holds(has_truncated_prefixes::<H, D>(context, case), Way::Slice);
     }
     Ok(())
 }
 
+/// Runs a message at the limits of its group.
+fn run_limits<'c>(
+    setting: &'c Setting<'_>,
+    group: &Value,
+    case: &'c Case<'_>,
+) -> Result<(), Difference> {
+    let context = setting.context(setting.set()?);
+    match limits(group) {
+        (16, 1) => run_at::<16, 1>(&context, case),
+        (1_024, 4) => run_at::<1_024, 4>(&context, case),
+        _ => Err(Difference::Setting),
+    }
+}
+
 /// Runs a test.
 pub fn run_test(alloc: Global, group: &Value, test: &Value) -> Result<(), Difference> {
     let setting = Setting::read(alloc, group);
-    let keys = bytes(alloc, group, "keys");
-    let Ok(set) = KeySet::read(keys.as_slice()) else {
-        return Err(Difference::Setting);
-    };
-    let message = bytes(alloc, test, "message");
-    let detached = optional_bytes(alloc, test, "payload");
-    let x = bytes(alloc, test, "x");
-    let structure = bytes(alloc, test, "structure");
-    let signature = bytes(alloc, test, "signature");
-    let expected = object(test, "result");
-    let payload = bytes(alloc, expected, "payload");
-    let case = Case {
-        message: message.as_slice(),
-        detached: detached.as_ref().map(Vec::as_slice),
-        x: x.as_slice(),
-        structure: structure.as_slice(),
-        signature: signature.as_slice(),
-        answer: boolean(test, "holds"),
-        expected,
-        payload: payload.as_slice(),
-    };
-    let context = setting.context(set);
-    match (integer(group, "headerLimit"), integer(group, "nesting")) {
-        (16, 1) => run_at::<16, 1>(&context, &case),
-        (1_024, 4) => run_at::<1_024, 4>(&context, &case),
-        _ => Err(Difference::Setting),
-    }
+    let case = Case::read(alloc, test);
+    run_limits(&setting, group, &case)
 }

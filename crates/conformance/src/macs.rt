@@ -31,34 +31,46 @@ pub fn ends_as(mut running: Running, text: &[u8], cut: usize, expected: &[u8]) -
     running.finish_digest().as_slice() == expected
 }
 
-/// Runs a test.
-pub fn run_test(alloc: Global, group: &Value, test: &Value) -> Result<(), Difference> {
-    let Some(alg) = algorithm(group) else {
-        return Err(Difference::Setting);
-    };
+/// Runs a text under a key.
+fn run_key(alg: Alg, key: &[u8], text: &[u8], mac: &[u8]) -> Result<(), Difference> {
     if !alg.is_mac() {
         return Err(Difference::Setting);
     }
-    let key = bytes(alloc, test, "key");
-    let text = bytes(alloc, test, "text");
-    let mac = bytes(alloc, object(test, "result"), "mac");
     for cut in CUTS {
-        let running = Running::hmac(alg, key.as_slice());
-        holds(
-            ends_as(running, text.as_slice(), cut, mac.as_slice()),
-            Way::Feed,
-        )?;
+        let running = Running::hmac(alg, key);
+        holds(ends_as(running, text, cut, mac), Way::Feed)?;
     }
-    let prepared = Prepared::hmac(alg, key.as_slice());
+    Ok(())
+}
+
+/// Runs a text under a prepared key.
+fn run_prepared(alg: Alg, prepared: &Prepared, text: &[u8], mac: &[u8]) -> Result<(), Difference> {
     if !prepared.serves(alg) {
         return Err(Difference::Setting);
     }
     for cut in CUTS {
         let running = prepared.begin(alg);
-        holds(
-            ends_as(running, text.as_slice(), cut, mac.as_slice()),
-            Way::Feed,
-        )?;
+        holds(ends_as(running, text, cut, mac), Way::Feed)?;
     }
     Ok(())
+}
+
+/// Runs a text under a key, and under the same prepared.
+fn run_text(alg: Alg, key: &[u8], text: &[u8], mac: &[u8]) -> Result<(), Difference> {
+    if !alg.is_mac() {
+        return Err(Difference::Setting);
+    }
+    run_key(alg, key, text, mac)?;
+    run_prepared(alg, &Prepared::hmac(alg, key), text, mac)
+}
+
+/// Runs a test.
+pub fn run_test(alloc: Global, group: &Value, test: &Value) -> Result<(), Difference> {
+    let Some(alg) = algorithm(group) else {
+        return Err(Difference::Setting);
+    };
+    let key = bytes(alloc, test, "key");
+    let text = bytes(alloc, test, "text");
+    let mac = bytes(alloc, object(test, "result"), "mac");
+    run_text(alg, key.as_slice(), text.as_slice(), mac.as_slice())
 }

@@ -2,29 +2,62 @@
 
 ghost use Rattle.std.specs.Prelude.{◌≤◌};
 
-use crate::fields::{Difference, Way, bytes, holds, integer, number, object, optional_bytes, text};
+use crate::fields::{
+    Difference, Way, bytes, holds, integer, object, optional_bytes, payload_length, text,
+};
 use crate::macs::algorithm;
 use crate::streams::Comparison;
 use cose_msg::{Alg, Intake, Key, MakeFault, SliceIntake, make_mac0};
 use serde_json::Value;
 use std::alloc::Global;
 
-/// What a message is made of, and what is expected.
-#[derive(Clone, Copy)]
-struct Case<'c, 'v> {
+/// What a message is made of, but for the key, and what is expected.
+#[derive(Drop)]
+struct Case<'v> {
     alg: Alg,
-    key: Key<'c>,
-    kid: Option<&'c [u8]>,
-    aad: &'c [u8],
-    payload: &'c [u8],
+    kid: Option<Vec<u8>>,
+    aad: Vec<u8>,
+    payload: Vec<u8>,
     /// The stated length of the payload.
     length: u64,
     /// The name of the fault, where there is one.
     fault: Option<&'v str>,
     /// The message, or what was written of it before the fault.
-    message: &'c [u8],
+    message: Vec<u8>,
+    /// How many bytes of the payload are not taken.
+    left: u64,
+}
+
+impl<'v> Case<'v> {
+    /// What a test says, of a message by this algorithm with a payload of this length.
+    fn read(alloc: Global, alg: Alg, length: u64, test: &'v Value) -> Self {
+        let result = object(test, "result");
+        Case {
+            alg,
+            kid: optional_bytes(alloc, test, "kid"),
+            aad: bytes(alloc, test, "aad"),
+            payload: bytes(alloc, test, "payload"),
+            length,
+            fault: fault_of(result),
+            message: bytes(alloc, result, "message"),
+            left: integer(result, "left"),
+        }
+    }
+
     /// The bytes of the payload that are not taken.
-    left: &'c [u8],
+    fn left(&self) -> &[u8] {
+        let taken = (self.payload.len() as u64).saturating_sub(self.left);
+        self.payload.as_slice().get(taken as usize..).unwrap_or(&[])
+    }
+
+    /// Whether this is how making the message ends.
+    fn is(&self, made: Result<u64, MakeFault>) -> bool {
+        match (made, self.fault) {
+            (Ok(count), None) => count == self.message.len() as u64,
+            (Err(fault), Some(name)) => name == name_of(fault),
+            _ => false,
+        }
+    }
 }
 
 /// The name of a fault.
@@ -53,27 +86,22 @@ fn are_left(intake: &mut SliceIntake<'_>, left: &[u8]) -> bool {
 }
 
 /// Whether `make_mac0` gives what is expected where the payload comes in chunks of at most `C` bytes.
-fn is_made<const C: usize>(case: &Case<'_, '_>) -> bool
+fn is_made<const C: usize>(key: &Key<'_>, case: &Case<'_>) -> bool
     requires some { 1 ≤ C }
     requires limit { C ≤ 65536 }
 {
-    let mut intake = SliceIntake::new(case.payload, C);
-    let mut message = Comparison::new(case.message);
+    let mut intake = SliceIntake::new(case.payload.as_slice(), C);
+    let mut message = Comparison::new(case.message.as_slice());
     let made = make_mac0::<C, _, _>(
         case.alg,
-        &case.key,
-        case.kid,
-        case.aad,
+        key,
+        case.kid.as_ref().map(Vec::as_slice),
+        case.aad.as_slice(),
         &mut intake,
         case.length,
         &mut message,
     );
-    let is_expected = match (made, case.fault) {
-        (Ok(count), None) => count == case.message.len() as u64,
-        (Err(fault), Some(name)) => name == name_of(fault),
-        _ => false,
-    };
-    is_expected && message.is_whole() && are_left(&mut intake, case.left)
+    case.is(made) && message.is_whole() && are_left(&mut intake, case.left())
 }
 
 /// The name of the fault that is expected, where one is.
@@ -84,32 +112,23 @@ fn fault_of(row: &Value) -> Option<&str> {
     }
 }
 
-/// Runs a test.
-pub fn run_test(alloc: Global, group: &Value, test: &Value) -> Result<(), Difference> {
-    let key = bytes(alloc, group, "key");
-    let (Ok(key), Some(alg), Ok(length)) = (
-        Key::read(key.as_slice(), 0),
-        algorithm(test),
-        u64::try_from(number(test, "payloadLength")),
-    ) else {
+/// Runs a test under a key.
+fn run_key(key: &[u8], case: &Case<'_>) -> Result<(), Difference> {
+    let Ok(key) = Key::read(key, 0) else {
         return Err(Difference::Setting);
     };
-    let kid = optional_bytes(alloc, test, "kid");
-    let aad = bytes(alloc, test, "aad");
-    let payload = bytes(alloc, test, "payload");
-    let result = object(test, "result");
-    let message = bytes(alloc, result, "message");
-    let taken = (payload.len() as u64).saturating_sub(integer(result, "left"));
-    let case = Case {
-        alg,
-        key,
-        kid: kid.as_ref().map(|kid| kid.as_slice()),
-        aad: aad.as_slice(),
-        payload: payload.as_slice(),
-        length,
-        fault: fault_of(result),
-        message: message.as_slice(),
-        left: payload.as_slice().get(taken as usize..).unwrap_or(&[]),
+    holds(
+        is_made::<1>(&key, case) && is_made::<64>(&key, case),
+        Way::Verify,
+    )
+}
+
+/// Runs a test.
+pub fn run_test(alloc: Global, group: &Value, test: &Value) -> Result<(), Difference> {
+    let (Some(alg), Some(length)) = (algorithm(test), payload_length(test)) else {
+        return Err(Difference::Setting);
     };
-    holds(is_made::<1>(&case) && is_made::<64>(&case), Way::Verify)
+    let key = bytes(alloc, group, "key");
+    let case = Case::read(alloc, alg, length, test);
+    run_key(key.as_slice(), &case)
 }

@@ -6,7 +6,7 @@ ghost use Rattle.cose_msg.specs.Verifier.{is_detached};
 
 use crate::elsewhere::{self, LIES, Lie};
 use crate::expected::Expected;
-use crate::fields::{Difference, Way, bytes, holds, integer, object};
+use crate::fields::{Difference, Way, bytes, holds, integer, limits, object};
 use crate::setting::Setting;
 use crate::streams::{Comparison, Signature};
 use cose_msg::{
@@ -20,18 +20,39 @@ use std::alloc::Global;
 pub const CUTS: [usize; 5] = [1, 2, 7, 64, 65_536];
 
 /// A message with what is expected of it.
-#[derive(Clone, Copy)]
-struct Case<'c, 'v> {
-    message: &'c [u8],
+#[derive(Drop)]
+struct Case<'v> {
+    message: Vec<u8>,
     expected: Expected<'v>,
     /// The payload, where the message is authentic.
-    payload: &'c [u8],
+    payload: Vec<u8>,
     /// How many bytes of the message decide it.
     taken: u64,
-    signature: &'c Signature,
+    signature: Signature,
 }
 
-impl Case<'_, '_> {
+/// The payload of a result, where the message is authentic.
+fn payload_of(alloc: Global, row: &Value, expected: &Expected<'_>) -> Vec<u8> {
+    if expected.is_authentic() {
+        return bytes(alloc, row, "payload");
+    }
+    Vec::new(alloc)
+}
+
+impl<'v> Case<'v> {
+    /// The message of a test.
+    fn read(alloc: Global, test: &'v Value) -> Self {
+        let result = object(test, "result");
+        let expected = Expected::read(result);
+        Case {
+            message: bytes(alloc, test, "message"),
+            expected,
+            payload: payload_of(alloc, result, &expected),
+            taken: integer(result, "taken"),
+            signature: Signature::read(alloc, test),
+        }
+    }
+
     /// How many prefixes of the message are known to be Truncated: those of an authentic one that are shorter.
     fn prefixes(&self) -> usize {
         if self.expected.is_authentic() {
@@ -56,7 +77,7 @@ impl Case<'_, '_> {
                     payload: payload.len() as u64,
                     taken: self.message.len() as u64,
                 };
-                payload == self.payload
+                payload == self.payload.as_slice()
                     && self.expected.is(verdict, payload.len() as u64, self.taken)
             }
             Verified::Refused(
@@ -76,16 +97,16 @@ impl Case<'_, '_> {
 /// Whether `verify` gives what is expected where the message comes in pieces of at most `cut` bytes.
 fn is_verified<'k, const H: usize, const D: usize, K: Keys<'k>>(
     verifier: &mut Verifier<'k, H, D, K>,
-    case: &Case<'_, '_>,
+    case: &Case<'_>,
     cut: usize,
 ) -> bool
     requires verifies { is_inspecting verifier.old ≡ false }
     requires attached { is_detached verifier.old ≡ false }
     requires some { 0 < cut }
 {
-    let mut intake = SliceIntake::new(case.message, cut);
-    let mut payload = Comparison::new(case.payload);
-    match verify::<4_096, H, D, _, _, _, _>(verifier, &mut intake, &mut payload, case.signature) {
+    let mut intake = SliceIntake::new(case.message.as_slice(), cut);
+    let mut payload = Comparison::new(case.payload.as_slice());
+    match verify::<4_096, H, D, _, _, _, _>(verifier, &mut intake, &mut payload, &case.signature) {
         Ok(verdict) => case.is(verdict, verifier.taken(), &payload),
         Err(_) => false,
     }
@@ -125,15 +146,15 @@ pub fn decided<'k, const H: usize, const D: usize, K: Keys<'k>>(
 /// Whether feeding gives what is expected where the message comes in pieces of at most `cut` bytes.
 fn is_fed<'k, const H: usize, const D: usize, K: Keys<'k>>(
     verifier: &mut Verifier<'k, H, D, K>,
-    case: &Case<'_, '_>,
+    case: &Case<'_>,
     cut: usize,
 ) -> bool
     requires verifies { is_inspecting verifier.old ≡ false }
     requires some { 0 < cut }
 {
-    let mut payload = Comparison::new(case.payload);
-    feed(verifier, case.message, cut, &mut payload);
-    match decided(verifier, case.signature) {
+    let mut payload = Comparison::new(case.payload.as_slice());
+    feed(verifier, case.message.as_slice(), cut, &mut payload);
+    match decided(verifier, &case.signature) {
         Some(verdict) => case.is(verdict, verifier.taken(), &payload),
         None => false,
     }
@@ -142,14 +163,14 @@ fn is_fed<'k, const H: usize, const D: usize, K: Keys<'k>>(
 /// Whether a caller that authenticates the message itself gets what is expected, where it comes in pieces of at most `cut` bytes.
 fn is_stated<'k, const H: usize, const D: usize, K: Keys<'k>>(
     verifier: &mut Verifier<'k, H, D, K>,
-    case: &Case<'_, '_>,
+    case: &Case<'_>,
     cut: usize,
 ) -> bool
     requires some { 0 < cut }
 {
-    let mut payload = Comparison::new(case.payload);
-    let hash = elsewhere::feed(verifier, case.message, cut, &mut payload);
-    match elsewhere::stated(verifier, hash, case.signature) {
+    let mut payload = Comparison::new(case.payload.as_slice());
+    let hash = elsewhere::feed(verifier, case.message.as_slice(), cut, &mut payload);
+    match elsewhere::stated(verifier, hash, &case.signature) {
         Some(verdict) => case.is(verdict, verifier.taken(), &payload),
         None => false,
     }
@@ -158,11 +179,11 @@ fn is_stated<'k, const H: usize, const D: usize, K: Keys<'k>>(
 /// Whether a caller that states something else of the message never has it authentic.
 fn is_found_out<'k, const H: usize, const D: usize, K: Keys<'k>>(
     verifier: &mut Verifier<'k, H, D, K>,
-    case: &Case<'_, '_>,
+    case: &Case<'_>,
     lie: Lie,
 ) -> bool {
-    let mut payload = Comparison::new(case.payload);
-    let hash = elsewhere::feed(verifier, case.message, 64, &mut payload);
+    let mut payload = Comparison::new(case.payload.as_slice());
+    let hash = elsewhere::feed(verifier, case.message.as_slice(), 64, &mut payload);
     elsewhere::is_found_out(verifier, hash, lie)
 }
 
@@ -170,7 +191,7 @@ fn is_found_out<'k, const H: usize, const D: usize, K: Keys<'k>>(
 /// at its end.
 fn is_read<'k, const H: usize, const D: usize, K: Keys<'k>>(
     verifier: &mut Verifier<'k, H, D, K>,
-    case: &Case<'_, '_>,
+    case: &Case<'_>,
 ) -> bool
     requires verifies { is_inspecting verifier.old ≡ false }
     requires attached { is_detached verifier.old ≡ false }
@@ -180,124 +201,205 @@ fn is_read<'k, const H: usize, const D: usize, K: Keys<'k>>(
             reason: Reason::Truncated,
             place: end as u64,
         });
-        let prefix = case.message.get(..end).unwrap_or(&[]);
-        if verify_slice(verifier, prefix, case.signature) != truncated {
+        let prefix = case.message.as_slice().get(..end).unwrap_or(&[]);
+        if verify_slice(verifier, prefix, &case.signature) != truncated {
             return false;
         }
     }
-    case.is_verified(verify_slice(verifier, case.message, case.signature))
+    case.is_verified(verify_slice(verifier, case.message.as_slice(), &case.signature))
 }
 
-/// A verifier under the keys of a set.
-fn under_set<'k, const H: usize, const D: usize>(
+/// A verifier under these keys.
+fn under<'k, const H: usize, const D: usize, K: Keys<'k>>(
     setting: &'k Setting<'_>,
-    set: KeySet<'k>,
-) -> Verifier<'k, H, D>
+    keys: K,
+) -> Verifier<'k, H, D, K>
     requires some_room { 16 ≤ H }
     requires limit { H ≤ 65535 }
     requires nesting { D ≤ 32 }
     ensures verifies { is_inspecting result ≡ false }
     ensures attached { is_detached result ≡ false }
 {
-    Verifier::new(setting.context(set))
+    Verifier::new(setting.context(keys))
+}
+
+/// Runs a message through `verify` under these keys, in pieces of at most `cut` bytes.
+fn run_verify<'k, const H: usize, const D: usize, K: Keys<'k> + Drop>(
+    setting: &'k Setting<'_>,
+    keys: K,
+    case: &Case<'_>,
+    cut: usize,
+) -> Result<(), Difference>
+    requires some_room { 16 ≤ H }
+    requires limit { H ≤ 65535 }
+    requires nesting { D ≤ 32 }
+    requires some { 0 < cut }
+{
+    let mut verifier = under::<H, D, K>(setting, keys);
+    holds(is_verified(&mut verifier, case, cut), Way::Verify)
+}
+
+/// Feeds a message under these keys, in pieces of at most `cut` bytes.
+fn run_feed<'k, const H: usize, const D: usize, K: Keys<'k> + Drop>(
+    setting: &'k Setting<'_>,
+    keys: K,
+    case: &Case<'_>,
+    cut: usize,
+) -> Result<(), Difference>
+    requires some_room { 16 ≤ H }
+    requires limit { H ≤ 65535 }
+    requires nesting { D ≤ 32 }
+    requires some { 0 < cut }
+{
+    let mut verifier = under::<H, D, K>(setting, keys);
+    holds(is_fed(&mut verifier, case, cut), Way::Feed)
+}
+
+/// Runs a message that the caller authenticates under a key set, in pieces of at most `cut` bytes.
+fn run_elsewhere<'k, const H: usize, const D: usize>(
+    setting: &'k Setting<'_>,
+    set: KeySet<'k>,
+    case: &Case<'_>,
+    cut: usize,
+) -> Result<(), Difference>
+    requires some_room { 16 ≤ H }
+    requires limit { H ≤ 65535 }
+    requires nesting { D ≤ 32 }
+    requires some { 0 < cut }
+{
+    let mut asking = Verifier::<H, D>::elsewhere(setting.context(set));
+    holds(is_stated(&mut asking, case, cut), Way::Elsewhere)
+}
+
+/// Runs a message of which the caller states something else under a key set.
+fn run_lie<'k, const H: usize, const D: usize>(
+    setting: &'k Setting<'_>,
+    set: KeySet<'k>,
+    case: &Case<'_>,
+    lie: Lie,
+) -> Result<(), Difference>
+    requires some_room { 16 ≤ H }
+    requires limit { H ≤ 65535 }
+    requires nesting { D ≤ 32 }
+{
+    let mut asking = Verifier::<H, D>::elsewhere(setting.context(set));
+    holds(is_found_out(&mut asking, case, lie), Way::Elsewhere)
+}
+
+/// Runs a message whose bytes are all there, and its prefixes, under a key set.
+fn run_read<'k, const H: usize, const D: usize>(
+    setting: &'k Setting<'_>,
+    set: KeySet<'k>,
+    case: &Case<'_>,
+) -> Result<(), Difference>
+    requires some_room { 16 ≤ H }
+    requires limit { H ≤ 65535 }
+    requires nesting { D ≤ 32 }
+{
+    let mut verifier = under::<H, D, KeySet<'k>>(setting, set);
+    holds(is_read(&mut verifier, case), Way::Slice)
+}
+
+/// Runs a message through each way that takes pieces of at most `cut` bytes under a key set.
+fn run_cut<'k, const H: usize, const D: usize>(
+    setting: &'k Setting<'_>,
+    set: KeySet<'k>,
+    case: &Case<'_>,
+    cut: usize,
+) -> Result<(), Difference>
+    requires some_room { 16 ≤ H }
+    requires limit { H ≤ 65535 }
+    requires nesting { D ≤ 32 }
+    requires some { 0 < cut }
+{
+    run_verify::<H, D, KeySet<'k>>(setting, set, case, cut)?;
+    run_feed::<H, D, KeySet<'k>>(setting, set, case, cut)?;
+    run_elsewhere::<H, D>(setting, set, case, cut)
 }
 
 /// Runs a message through each way under a key set.
 fn run_under_set<'k, const H: usize, const D: usize>(
     setting: &'k Setting<'_>,
     set: KeySet<'k>,
-    case: &Case<'_, '_>,
+    case: &Case<'_>,
 ) -> Result<(), Difference>
     requires some_room { 16 ≤ H }
     requires limit { H ≤ 65535 }
     requires nesting { D ≤ 32 }
 {
     'cuts: for cut in CUTS {
-        let mut verifier = under_set::<H, D>(setting, set);
-        holds(is_verified(&mut verifier, case, cut), Way::Verify)?;
-        let mut fed = under_set::<H, D>(setting, set);
-        holds(is_fed(&mut fed, case, cut), Way::Feed)?;
-        let mut asking = Verifier::<H, D>::elsewhere(setting.context(set));
-        if cut > 0 {
-            holds(is_stated(&mut asking, case, cut), Way::Elsewhere)?;
-        }
+        run_cut::<H, D>(setting, set, case, cut)?;
     }
     'lies: for lie in LIES {
-        let mut asking = Verifier::<H, D>::elsewhere(setting.context(set));
-        holds(is_found_out(&mut asking, case, lie), Way::Elsewhere)?;
+        run_lie::<H, D>(setting, set, case, lie)?;
     }
-    let mut verifier = under_set::<H, D>(setting, set);
-    holds(is_read(&mut verifier, case), Way::Slice)
+    run_read::<H, D>(setting, set, case)
 }
 
-/// Runs a message at a header limit and a nesting, under a table of prepared keys.
-fn run_prepared<'k, const H: usize, const D: usize>(
+/// Runs a message under a table of keys: by a reference to it, and by itself.
+fn run_under_table<'k, const H: usize, const D: usize>(
     setting: &'k Setting<'_>,
-    keys: &'k [u8],
-    case: &Case<'_, '_>,
+    case: &Case<'_>,
 ) -> Result<(), Difference>
     requires some_room { 16 ≤ H }
     requires limit { H ≤ 65535 }
     requires nesting { D ≤ 32 }
 {
-    let Ok(table) = KeyTable::<16>::read(keys) else {
+    let Ok(table) = KeyTable::<16>::read(setting.keys()) else {
+        return Err(Difference::Setting);
+    };
+    run_feed::<H, D, &KeyTable<'_, 16>>(setting, &table, case, 64)?;
+    run_verify::<H, D, KeyTable<'_, 16>>(setting, table, case, 64)
+}
+
+/// Runs a message under a table of prepared keys: by a reference to it, and by itself.
+fn run_prepared<'k, const H: usize, const D: usize>(
+    setting: &'k Setting<'_>,
+    case: &Case<'_>,
+) -> Result<(), Difference>
+    requires some_room { 16 ≤ H }
+    requires limit { H ≤ 65535 }
+    requires nesting { D ≤ 32 }
+{
+    let Ok(table) = KeyTable::<16>::read(setting.keys()) else {
         return Err(Difference::Setting);
     };
     let prepared = PreparedTable::new(table);
-    let mut shared = Verifier::<H, D, &PreparedTable<'_, 16>>::new(setting.context(&prepared));
-    holds(is_fed(&mut shared, case, 64), Way::Feed)?;
-    let mut owner = Verifier::<H, D, PreparedTable<'_, 16>>::new(setting.context(prepared));
-    holds(is_verified(&mut owner, case, 64), Way::Verify)
+    run_feed::<H, D, &PreparedTable<'_, 16>>(setting, &prepared, case, 64)?;
+    run_verify::<H, D, PreparedTable<'_, 16>>(setting, prepared, case, 64)
 }
 
 /// Runs a message at a header limit and a nesting, under a key set, a reference to a table of keys, a table of keys and a table
 /// of prepared ones.
 fn run_at<'k, const H: usize, const D: usize>(
     setting: &'k Setting<'_>,
-    keys: &'k [u8],
-    case: &Case<'_, '_>,
+    case: &Case<'_>,
 ) -> Result<(), Difference>
     requires some_room { 16 ≤ H }
     requires limit { H ≤ 65535 }
     requires nesting { D ≤ 32 }
 {
-    let (Ok(set), Ok(table)) = (KeySet::read(keys), KeyTable::<16>::read(keys)) else {
-        return Err(Difference::Setting);
-    };
-    run_prepared::<H, D>(setting, keys, case)?;
+    let set = setting.set()?;
+    run_prepared::<H, D>(setting, case)?;
     run_under_set::<H, D>(setting, set, case)?;
-    let mut shared = Verifier::<H, D, &KeyTable<'_, 16>>::new(setting.context(&table));
-    holds(is_fed(&mut shared, case, 64), Way::Feed)?;
-    let mut owner = Verifier::<H, D, KeyTable<'_, 16>>::new(setting.context(table));
-    holds(is_verified(&mut owner, case, 64), Way::Verify)
+    run_under_table::<H, D>(setting, case)
+}
+
+/// Runs a message at the limits of its group.
+fn run_limits(setting: &Setting<'_>, group: &Value, case: &Case<'_>) -> Result<(), Difference> {
+    match limits(group) {
+        (16, 1) => run_at::<16, 1>(setting, case),
+        (64, 4) => run_at::<64, 4>(setting, case),
+        (1_024, 4) => run_at::<1_024, 4>(setting, case),
+        (1_024, 8) => run_at::<1_024, 8>(setting, case),
+        (65_535, 32) => run_at::<65_535, 32>(setting, case),
+        _ => Err(Difference::Setting),
+    }
 }
 
 /// Runs a test.
 pub fn run_test(alloc: Global, group: &Value, test: &Value) -> Result<(), Difference> {
     let setting = Setting::read(alloc, group);
-    let keys = bytes(alloc, group, "keys");
-    let message = bytes(alloc, test, "message");
-    let signature = Signature::read(alloc, test);
-    let result = object(test, "result");
-    let expected = Expected::read(result);
-    let payload = match expected {
-        Expected::Authentic { .. } => bytes(alloc, result, "payload"),
-        Expected::Refused(_) => Vec::new(alloc),
-    };
-    let case = Case {
-        message: message.as_slice(),
-        expected,
-        payload: payload.as_slice(),
-        taken: integer(result, "taken"),
-        signature: &signature,
-    };
-    let keys = keys.as_slice();
-    match (integer(group, "headerLimit"), integer(group, "nesting")) {
-        (16, 1) => run_at::<16, 1>(&setting, keys, &case),
-        (64, 4) => run_at::<64, 4>(&setting, keys, &case),
-        (1_024, 4) => run_at::<1_024, 4>(&setting, keys, &case),
-        (1_024, 8) => run_at::<1_024, 8>(&setting, keys, &case),
-        (65_535, 32) => run_at::<65_535, 32>(&setting, keys, &case),
-        _ => Err(Difference::Setting),
-    }
+    let case = Case::read(alloc, test);
+    run_limits(&setting, group, &case)
 }

@@ -2,17 +2,18 @@
 
 ghost use Rattle.std.specs.Prelude.{◌≡◌, ◌≤◌, length, vec_len};
 
-use crate::fields::{array, boolean, bytes, optional_integer, text};
-use cose_msg::{Context, Label, Wanted};
+use crate::fields::{Difference, array, boolean, bytes, optional_integer, text};
+use cose_msg::{Context, KeySet, Label, Wanted};
 use serde_json::Value;
 use std::alloc::Global;
 
 /// The greatest payload (RFC 9052 has no limit; that of the libraries is below 2^56 bytes).
 const ANY_PAYLOAD: u64 = (1 << 56) - 1;
 
-/// What the messages of a group are verified under, but for their keys.
+/// What the messages of a group are verified under.
 #[derive(Drop)]
 pub struct Setting<'v> {
+    keys: Vec<u8>,
     aad: Vec<u8>,
     wanted: Wanted,
     cwt: bool,
@@ -63,12 +64,23 @@ impl<'v> Setting<'v> {
         let mut aad = bytes(alloc, group, "aad");
         aad.truncate(65_535);
         Setting {
+            keys: bytes(alloc, group, "keys"),
             aad,
             wanted: wanted_of(group),
             cwt: boolean(group, "cwt") == Some(true),
             understood: labels(alloc, group, "understood"),
             payload_limit: optional_integer(group, "payloadLimit").unwrap_or(ANY_PAYLOAD),
         }
+    }
+
+    /// The bytes of the keys: none where the group has none.
+    pub fn keys(&self) -> &[u8] {
+        self.keys.as_slice()
+    }
+
+    /// The set of the keys.
+    pub fn set(&self) -> Result<KeySet<'_>, Difference> {
+        KeySet::read(self.keys.as_slice()).or(Err(Difference::Setting))
     }
 
     /// The context of a message under these keys.

@@ -2,7 +2,9 @@
 
 ghost use Rattle.std.specs.Prelude.{◌<◌};
 
-use crate::fields::{Difference, Way, bytes, holds, integer, number, object, optional_bytes, text};
+use crate::fields::{
+    Difference, Way, bytes, holds, integer, object, optional_bytes, payload_length, text,
+};
 use crate::macs::algorithm;
 use crate::streams::Comparison;
 use cose_msg::{Alg, Sign1Maker, SignFault, Sink};
@@ -10,21 +12,56 @@ use serde_json::Value;
 use std::alloc::Global;
 
 /// What a message is made of, and what is expected.
-#[derive(Clone, Copy)]
-struct Case<'c, 'v> {
+#[derive(Drop)]
+struct Case<'v> {
     alg: Alg,
-    kid: Option<&'c [u8]>,
-    aad: &'c [u8],
-    payload: &'c [u8],
+    kid: Option<Vec<u8>>,
+    aad: Vec<u8>,
+    payload: Vec<u8>,
     /// The stated length of the payload.
     length: u64,
-    signature: &'c [u8],
+    signature: Vec<u8>,
     /// The digest to sign, where the message is made.
-    digest: &'c [u8],
+    digest: Vec<u8>,
+    /// The message, or what was written of it before the fault.
+    message: Vec<u8>,
     /// The name of the fault, where there is one.
     fault: Option<&'v str>,
     /// The bytes of the payload that are not taken.
     left: u64,
+}
+
+impl<'v> Case<'v> {
+    /// What a test says, of a message by this algorithm with a payload of this length.
+    fn read(alloc: Global, alg: Alg, length: u64, test: &'v Value) -> Self {
+        let result = object(test, "result");
+        Case {
+            alg,
+            kid: optional_bytes(alloc, test, "kid"),
+            aad: bytes(alloc, test, "aad"),
+            payload: bytes(alloc, test, "payload"),
+            length,
+            signature: bytes(alloc, test, "signature"),
+            digest: bytes(alloc, result, "digest"),
+            message: bytes(alloc, result, "message"),
+            fault: fault_of(result),
+            left: integer(result, "left"),
+        }
+    }
+
+    /// The identifier of the key.
+    fn kid(&self) -> Option<&[u8]> {
+        self.kid.as_ref().map(Vec::as_slice)
+    }
+
+    /// Whether this is how making the message ends: with the digest to sign or not, or with a fault.
+    fn is(&self, made: Result<bool, SignFault>) -> bool {
+        match (made, self.fault) {
+            (Ok(is_digest), None) => is_digest,
+            (Err(fault), Some(name)) => name == name_of(fault),
+            _ => false,
+        }
+    }
 }
 
 /// The name of a fault.
@@ -51,44 +88,45 @@ fn pass(maker: &mut Sign1Maker, payload: &[u8], cut: usize, message: &mut Compar
     taken
 }
 
-/// How a message ends that is made in these pieces: the number of bytes that aren't taken, and the fault, where there is one.
-fn made(
-    case: &Case<'_, '_>,
-    cut: usize,
+/// How a message ends whose payload was passed on.
+fn ended(
+    maker: Sign1Maker,
+    case: &Case<'_>,
     message: &mut Comparison<'_>,
-) -> (u64, Result<bool, SignFault>)
-    requires { 0 < cut }
-{
-    let all = case.payload.len() as u64;
-    let begun = Sign1Maker::begin(case.alg, case.kid, case.aad, case.length, message);
-    let mut maker = match begun {
-        Ok(maker) => maker,
-        Err(fault) => return (all, Err(fault)),
-    };
-    let taken = pass(&mut maker, case.payload, cut, message);
-    let left = all.saturating_sub(taken);
+) -> Result<bool, SignFault> {
     let unsigned = match maker.finish() {
         Ok(unsigned) => unsigned,
-        Err(fault) => return (left, Err(fault)),
+        Err(fault) => return Err(fault),
     };
-    match unsigned.end(case.signature, message) {
-        Ok(_) => (left, Ok(unsigned.digest() == case.digest)),
-        Err(fault) => (left, Err(fault)),
+    match unsigned.end(case.signature.as_slice(), message) {
+        Ok(_) => Ok(unsigned.digest() == case.digest.as_slice()),
+        Err(fault) => Err(fault),
+    }
+}
+
+/// How a message ends that is made in these pieces: the number of bytes that aren't taken, and the fault, where there is one.
+fn made(case: &Case<'_>, cut: usize, message: &mut Comparison<'_>) -> (u64, Result<bool, SignFault>)
+    requires { 0 < cut }
+{
+    let payload = case.payload.as_slice();
+    let all = payload.len() as u64;
+    let aad = case.aad.as_slice();
+    match Sign1Maker::begin(case.alg, case.kid(), aad, case.length, message) {
+        Ok(mut maker) => {
+            let left = all.saturating_sub(pass(&mut maker, payload, cut, message));
+            (left, ended(maker, case, message))
+        }
+        Err(fault) => (all, Err(fault)),
     }
 }
 
 /// Whether the result is the expected one where the payload comes in pieces of at most `cut` bytes.
-fn is_made(case: &Case<'_, '_>, expected: &[u8], cut: usize) -> bool
+fn is_made(case: &Case<'_>, cut: usize) -> bool
     requires { 0 < cut }
 {
-    let mut message = Comparison::new(expected);
+    let mut message = Comparison::new(case.message.as_slice());
     let (left, made) = made(case, cut, &mut message);
-    let is_expected = match (made, case.fault) {
-        (Ok(is_digest), None) => is_digest,
-        (Err(fault), Some(name)) => name == name_of(fault),
-        _ => false,
-    };
-    is_expected && message.is_whole() && left == case.left
+    case.is(made) && message.is_whole() && left == case.left
 }
 
 /// The name of the fault that is expected, where one is.
@@ -101,33 +139,10 @@ fn fault_of(row: &Value) -> Option<&str> {
 
 /// Runs a test.
 pub fn run_test(alloc: Global, test: &Value) -> Result<(), Difference> {
-    let (Some(alg), Ok(length)) = (
-        algorithm(test),
-        u64::try_from(number(test, "payloadLength")),
-    ) else {
+    let (Some(alg), Some(length)) = (algorithm(test), payload_length(test)) else {
         return Err(Difference::Setting);
     };
-    let kid = optional_bytes(alloc, test, "kid");
-    let aad = bytes(alloc, test, "aad");
-    let payload = bytes(alloc, test, "payload");
-    let signature = bytes(alloc, test, "signature");
-    let result = object(test, "result");
-    let digest = bytes(alloc, result, "digest");
-    let message = bytes(alloc, result, "message");
-    let case = Case {
-        alg,
-        kid: kid.as_ref().map(|kid| kid.as_slice()),
-        aad: aad.as_slice(),
-        payload: payload.as_slice(),
-        length,
-        signature: signature.as_slice(),
-        digest: digest.as_slice(),
-        fault: fault_of(result),
-        left: integer(result, "left"),
-    };
-    let message = message.as_slice();
-    let holds_in_all = is_made(&case, message, 1)
-        && is_made(&case, message, 7)
-        && is_made(&case, message, 64);
+    let case = Case::read(alloc, alg, length, test);
+    let holds_in_all = is_made(&case, 1) && is_made(&case, 7) && is_made(&case, 64);
     holds(holds_in_all, Way::Feed)
 }
