@@ -22,15 +22,22 @@ fn curve_of(key_type: KeyType) -> Option<u64> {
     }
 }
 
-/// Whether an algorithm is the expected one.
-fn is_algorithm(row: &Value, alg: Alg) -> bool {
+/// Whether the kind of an algorithm is the expected one.
+fn is_kind(row: &Value, alg: Alg) -> bool {
     let kind = text(row, "kind");
-    text(row, "verdict") == "algorithm"
-        && kind == name_of(alg.kind())
-        && alg.is_mac() == (kind == "mac0")
-        && name_of_hash(alg.hash()) == text(row, "hash")
+    kind == name_of(alg.kind()) && alg.is_mac() == (kind == "mac0")
+}
+
+/// Whether the hash function, the curve and the length of an algorithm are the expected ones.
+fn has_parts(row: &Value, alg: Alg) -> bool {
+    name_of_hash(alg.hash()) == text(row, "hash")
         && curve_of(alg.key_type()) == optional_integer(row, "curve")
         && alg.auth_length() as u64 == integer(row, "length")
+}
+
+/// Whether an algorithm is the expected one.
+fn is_algorithm(row: &Value, alg: Alg) -> bool {
+    text(row, "verdict") == "algorithm" && is_kind(row, alg) && has_parts(row, alg)
 }
 
 /// Runs a test.

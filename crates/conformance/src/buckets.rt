@@ -2,10 +2,11 @@
 
 ghost use Rattle.std.specs.Prelude.{◌≤◌, ◌+◌, ◌<◌, ◌^◌, length};
 
-use crate::fields::{Difference, Way, array, bytes, holds, integer, object, optional_bytes, text};
+use crate::fields::{Difference, Way, array, bytes, holds, integer, object, text};
 use crate::items::{is_refused, nesting_of};
+use crate::keys::are_bytes;
 use crate::setting::label_of;
-use cose_map::{Bucket, ItemRef, Items, Label, header};
+use cose_map::{Bucket, ItemRef, Items, Label, Refusal, header};
 use serde_json::Value;
 use std::alloc::Global;
 
@@ -66,39 +67,62 @@ fn is_crit(row: &Value, bucket: &Bucket<'_>) -> bool {
     }
 }
 
+/// Whether the algorithm of a bucket is the expected one.
+fn is_alg(row: &Value, bucket: &Bucket<'_>) -> bool {
+    let alg = row.get("alg");
+    bucket.alg() == alg.and_then(label_of) && bucket.has(&header::ALG) == alg.is_some()
+}
+
 /// Whether a bucket is the expected one.
 fn is_bucket(alloc: Global, row: &Value, bucket: &Bucket<'_>) -> bool {
-    let kid = optional_bytes(alloc, row, "kid");
-    let is_kid = match kid {
-        Some(kid) => bucket.kid() == Some(kid.as_slice()),
-        None => bucket.kid().is_none(),
-    };
     text(row, "verdict") == "bucket"
-        && is_kid
-        && bucket.alg() == row.get("alg").and_then(label_of)
-        && bucket.has(&header::ALG) == row.get("alg").is_some()
+        && are_bytes(alloc, row, "kid", bucket.kid())
+        && is_alg(row, bucket)
         && is_crit(row, bucket)
         && has_pairs(alloc, array(row, "pairs"), bucket)
+}
+
+/// Whether reading gives the expected bucket, or the fault where it has one, and that is expected.
+fn is_read(
+    alloc: Global,
+    row: &Value,
+    read: Result<Bucket<'_>, Refusal>,
+    fault: Option<Refusal>,
+) -> bool {
+    match read {
+        Ok(bucket) => fault.is_none() && is_bucket(alloc, row, &bucket),
+        Err(refusal) => fault == Some(refusal) && is_refused(row, refusal),
+    }
+}
+
+/// Whether reading again what has no fault gives the expected bucket.
+fn is_again(
+    alloc: Global,
+    row: &Value,
+    again: Result<Bucket<'_>, Refusal>,
+    fault: Option<Refusal>,
+) -> bool {
+    match again {
+        Ok(bucket) if fault.is_none() => is_bucket(alloc, row, &bucket),
+        _ => fault.is_some(),
+    }
+}
+
+/// Runs a bucket, which stands at the place of the group.
+fn run_bucket(alloc: Global, group: &Value, row: &Value, bucket: &[u8]) -> Result<(), Difference> {
+    let place = integer(group, "place");
+    let nesting = nesting_of(group);
+    if place.checked_add(bucket.len() as u64).is_none() {
+        return Err(Difference::Setting);
+    }
+    let fault = Bucket::fault(bucket, place, nesting);
+    let is_read = is_read(alloc, row, Bucket::read(bucket, place, nesting), fault);
+    let is_again = is_again(alloc, row, Bucket::again(bucket, place, nesting), fault);
+    holds(is_read && is_again, Way::Slice)
 }
 
 /// Runs a test.
 pub fn run_test(alloc: Global, group: &Value, test: &Value) -> Result<(), Difference> {
     let bucket = bytes(alloc, test, "bucket");
-    let bucket = bucket.as_slice();
-    let place = integer(group, "place");
-    let nesting = nesting_of(group);
-    let result = object(test, "result");
-    if place.checked_add(bucket.len() as u64).is_none() {
-        return Err(Difference::Setting);
-    }
-    let fault = Bucket::fault(bucket, place, nesting);
-    let is_it = match Bucket::read(bucket, place, nesting) {
-        Ok(read) => fault.is_none() && is_bucket(alloc, result, &read),
-        Err(refusal) => fault == Some(refusal) && is_refused(result, refusal),
-    };
-    holds(is_it, Way::Slice)?;
-    match Bucket::again(bucket, place, nesting) {
-        Ok(again) if fault.is_none() => holds(is_bucket(alloc, result, &again), Way::Slice),
-        _ => holds(fault.is_some(), Way::Slice),
-    }
+    run_bucket(alloc, group, object(test, "result"), bucket.as_slice())
 }

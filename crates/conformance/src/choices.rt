@@ -106,23 +106,59 @@ pub fn query_of<'q>(test: &'q Value, kid: Option<&'q [u8]>) -> Query<'q> {
     }
 }
 
-/// Runs a test.
-pub fn run_test(alloc: Global, group: &Value, test: &Value) -> Result<(), Difference> {
-    let keys = bytes(alloc, group, "keys");
-    let keys = keys.as_slice();
-    let kid = optional_bytes(alloc, test, "kid");
-    let query = query_of(test, kid.as_ref().map(Vec::as_slice));
-    let expected = object(test, "result");
-    is_chosen_of_allowed(alloc, keys, group, &query, expected)?;
+/// Runs a query in a key set, in a table of its keys and in a reference to that.
+fn run_each(
+    alloc: Global,
+    set: &KeySet<'_>,
+    table: &KeyTable<'_, 256>,
+    query: &Query<'_>,
+    expected: &Value,
+) -> Result<(), Difference> {
+    is_chosen(alloc, set, query, expected)?;
+    is_chosen(alloc, table, query, expected)?;
+    is_chosen(alloc, &table, query, expected)?;
+    is_placed(set.place(query), expected)?;
+    is_placed(table.place(query), expected)
+}
+
+/// Runs a query in all keys of a set.
+fn run_all(
+    alloc: Global,
+    keys: &[u8],
+    query: &Query<'_>,
+    expected: &Value,
+) -> Result<(), Difference> {
+    match (KeySet::read(keys), KeyTable::<256>::read(keys)) {
+        (Ok(set), Ok(table)) => run_each(alloc, &set, &table, query, expected),
+        _ => Err(Difference::Setting),
+    }
+}
+
+/// Runs a query in the keys that a group allows, and in all where it says nothing of them.
+fn run_query(
+    alloc: Global,
+    keys: &[u8],
+    group: &Value,
+    query: &Query<'_>,
+    expected: &Value,
+) -> Result<(), Difference> {
+    is_chosen_of_allowed(alloc, keys, group, query, expected)?;
     if group.get("algorithms").is_some() || group.get("leastSecret").is_some() {
         return Ok(());
     }
-    let (Ok(set), Ok(table)) = (KeySet::read(keys), KeyTable::<256>::read(keys)) else {
-        return Err(Difference::Setting);
-    };
-    is_chosen(alloc, &set, &query, expected)?;
-    is_chosen(alloc, &table, &query, expected)?;
-    is_chosen(alloc, &&table, &query, expected)?;
-    is_placed(set.place(&query), expected)?;
-    is_placed(table.place(&query), expected)
+    run_all(alloc, keys, query, expected)
+}
+
+/// Runs a test.
+pub fn run_test(alloc: Global, group: &Value, test: &Value) -> Result<(), Difference> {
+    let keys = bytes(alloc, group, "keys");
+    let kid = optional_bytes(alloc, test, "kid");
+    let query = query_of(test, kid.as_ref().map(Vec::as_slice));
+    run_query(
+        alloc,
+        keys.as_slice(),
+        group,
+        &query,
+        object(test, "result"),
+    )
 }

@@ -73,12 +73,8 @@ fn is_among(text: &str, values: &[Value]) -> bool {
     false
 }
 
-/// Whether the audience is that of an object, and is asked for its texts, and for the subject, with the right answer.
-fn is_audience(claims: &Claims<'_>, said: &Value) -> bool {
-    let texts = match said.get("aud").and_then(Value::as_array) {
-        Some(texts) => texts.as_slice(),
-        None => &[],
-    };
+/// Whether the texts of the audience are these, in their order, and it is asked for each with the right answer.
+fn has_texts(claims: &Claims<'_>, texts: &[Value]) -> bool {
     let mut rest = texts;
     for text in claims.auds() {
         match rest {
@@ -88,8 +84,14 @@ fn is_audience(claims: &Claims<'_>, said: &Value) -> bool {
             _ => return false,
         }
     }
+    rest.is_empty()
+}
+
+/// Whether the audience is that of an object, and is asked for its texts, and for the subject, with the right answer.
+fn is_audience(claims: &Claims<'_>, said: &Value) -> bool {
+    let texts = array(said, "aud");
     let subject = claims.sub().unwrap_or("");
-    rest.is_empty() && claims.aud_has(subject) == is_among(subject, texts)
+    has_texts(claims, texts) && claims.aud_has(subject) == is_among(subject, texts)
 }
 
 /// Whether the key of a confirmation is that of an object, and absent where it is.
@@ -115,16 +117,35 @@ fn is_confirmation(alloc: Global, claims: &Claims<'_>, said: &Value) -> bool {
     }
 }
 
+/// Whether the issuer, the subject and the audience are those of an object.
+fn has_parties(claims: &Claims<'_>, said: &Value) -> bool {
+    claims.iss() == said.get("iss").and_then(Value::as_str)
+        && claims.sub() == said.get("sub").and_then(Value::as_str)
+        && is_audience(claims, said)
+}
+
+/// Whether the dates are those of an object.
+fn has_dates(claims: &Claims<'_>, said: &Value) -> bool {
+    is_date(claims.exp(), said, "exp")
+        && is_date(claims.nbf(), said, "nbf")
+        && is_date(claims.iat(), said, "iat")
+}
+
 /// Whether claims are those of an object.
 pub fn are_claims(alloc: Global, claims: &Claims<'_>, said: &Value) -> bool {
-    let has_texts = claims.iss() == said.get("iss").and_then(Value::as_str)
-        && claims.sub() == said.get("sub").and_then(Value::as_str)
-        && is_audience(claims, said);
-    let has_dates = is_date(claims.exp(), said, "exp")
-        && is_date(claims.nbf(), said, "nbf")
-        && is_date(claims.iat(), said, "iat");
     let has_cti = are_bytes(alloc, said, "cti", claims.cti());
-    has_texts && has_dates && has_cti && is_confirmation(alloc, claims, said)
+    has_cti
+        && has_parties(claims, said)
+        && has_dates(claims, said)
+        && is_confirmation(alloc, claims, said)
+}
+
+/// The policy of a group, where it has one.
+fn optional_rules<'v>(alloc: Global, group: &'v Value) -> Option<Rules<'v>> {
+    match group.get("now") {
+        Some(_) => Some(Rules::read(alloc, group)),
+        None => None,
+    }
 }
 
 /// The claims of a payload, admitted where there is a policy.
@@ -142,23 +163,26 @@ fn read<'p>(
     Ok(claims)
 }
 
+/// Whether these are the expected claims, or the expected refusal.
+fn is_expected(alloc: Global, claims: Result<Claims<'_>, Refusal>, expected: &Value) -> bool {
+    match (text(expected, "verdict"), claims) {
+        ("claims", Ok(claims)) => are_claims(alloc, &claims, object(expected, "claims")),
+        ("refused", Err(refusal)) => Refused::read(expected).is(refusal),
+        _ => false,
+    }
+}
+
 /// Runs a test.
 pub fn run_test(alloc: Global, group: &Value, test: &Value) -> Result<(), Difference> {
-    let payload = bytes(alloc, test, "payload");
     let nesting = integer(group, "nesting");
     if nesting > 32 {
         return Err(Difference::Setting);
     }
-    let rules = match group.get("now") {
-        Some(_) => Some(Rules::read(alloc, group)),
-        None => None,
-    };
-    let expected = object(test, "result");
+    let payload = bytes(alloc, test, "payload");
+    let rules = optional_rules(alloc, group);
     let claims = read(payload.as_slice(), nesting as usize, rules.as_ref());
-    let is_expected = match (text(expected, "verdict"), claims) {
-        ("claims", Ok(claims)) => are_claims(alloc, &claims, object(expected, "claims")),
-        ("refused", Err(refusal)) => Refused::read(expected).is(refusal),
-        _ => false,
-    };
-    holds(is_expected, Way::Slice)
+    holds(
+        is_expected(alloc, claims, object(test, "result")),
+        Way::Slice,
+    )
 }

@@ -5,7 +5,7 @@ ghost use Rattle.std.specs.Prelude.{◌≤◌, ◌+◌, ◌<◌, ◌^◌, length
 use crate::fields::{Difference, Way, bytes, holds, integer, object, text};
 use crate::items::is_refused;
 use crate::setting::labels;
-use cose_map::{Bucket, check_pair};
+use cose_map::{Bucket, Label, check_pair};
 use serde_json::Value;
 use std::alloc::Global;
 
@@ -17,18 +17,32 @@ fn bucket_at<'b>(bucket: &'b [u8], place: u64) -> Result<Bucket<'b>, Difference>
     Bucket::read(bucket, place, 8).or(Err(Difference::Setting))
 }
 
+/// Runs both buckets of a test.
+fn run_pair(
+    test: &Value,
+    protected: &[u8],
+    unprotected: &[u8],
+    understood: &[Label<'_>],
+) -> Result<(), Difference> {
+    let row = object(test, "result");
+    let protected = bucket_at(protected, integer(test, "protectedPlace"))?;
+    let unprotected = bucket_at(unprotected, integer(test, "unprotectedPlace"))?;
+    let is_it = match check_pair(&protected, &unprotected, understood, integer(test, "after")) {
+        Ok(()) => text(row, "verdict") == "accepted",
+        Err(refusal) => is_refused(row, refusal),
+    };
+    holds(is_it, Way::Slice)
+}
+
 /// Runs a test.
 pub fn run_test(alloc: Global, group: &Value, test: &Value) -> Result<(), Difference> {
     let protected = bytes(alloc, test, "protected");
     let unprotected = bytes(alloc, test, "unprotected");
     let understood = labels(alloc, group, "understood");
-    let result = object(test, "result");
-    let protected = bucket_at(protected.as_slice(), integer(test, "protectedPlace"))?;
-    let unprotected = bucket_at(unprotected.as_slice(), integer(test, "unprotectedPlace"))?;
-    let after = integer(test, "after");
-    let is_it = match check_pair(&protected, &unprotected, understood.as_slice(), after) {
-        Ok(()) => text(result, "verdict") == "accepted",
-        Err(refusal) => is_refused(result, refusal),
-    };
-    holds(is_it, Way::Slice)
+    run_pair(
+        test,
+        protected.as_slice(),
+        unprotected.as_slice(),
+        understood.as_slice(),
+    )
 }

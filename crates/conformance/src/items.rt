@@ -73,17 +73,30 @@ fn pass_all<const D: usize>(walker: &mut Walker<D>, item: &[u8]) {
 }
 
 impl Walk<'_> {
-    /// Whether a walker of this nesting answers as reading does.
-    fn is_walked<const D: usize>(&self) -> Result<(), Difference>
+    /// Whether a walker of this nesting that gets the bytes one by one answers as reading does.
+    fn is_put<const D: usize>(&self) -> bool
         requires { D ≤ 32 }
     {
         let mut walker: Walker<D> = Walker::new(self.room);
         let going = put_all(&mut walker, self.item);
         let is_going = self.going.unwrap_or(going) == going;
-        holds(is_going && walker.step() == step_of(self.read), Way::Feed)?;
+        is_going && walker.step() == step_of(self.read)
+    }
+
+    /// Whether a walker of this nesting that gets each string in one piece answers as reading does.
+    fn is_passed<const D: usize>(&self) -> bool
+        requires { D ≤ 32 }
+    {
         let mut walker: Walker<D> = Walker::new(self.room);
         pass_all(&mut walker, self.item);
-        holds(walker.step() == step_of(self.read), Way::Feed)
+        walker.step() == step_of(self.read)
+    }
+
+    /// Whether walkers of this nesting answer as reading does.
+    fn is_walked<const D: usize>(&self) -> Result<(), Difference>
+        requires { D ≤ 32 }
+    {
+        holds(self.is_put::<D>() && self.is_passed::<D>(), Way::Feed)
     }
 
     /// Whether walkers of this nesting answer as reading does. No byte is put where there is none, and so no answer given.

@@ -70,24 +70,32 @@ fn is_material(alloc: Global, material: Material<'_>, expected: &Value) -> bool 
 
 /// Whether a key is the expected one.
 pub fn is_key(alloc: Global, key: &Key<'_>, expected: &Value) -> bool {
-    let is_alg = label(expected, "alg") == key.alg;
-    let is_kid = are_bytes(alloc, expected, "kid", key.kid);
-    let has_operations = are_operations(key.ops, expected);
-    is_alg && is_kid && has_operations && is_material(alloc, key.material, expected)
+    if label(expected, "alg") != key.alg || !are_bytes(alloc, expected, "kid", key.kid) {
+        return false;
+    }
+    are_operations(key.ops, expected) && is_material(alloc, key.material, expected)
 }
 
-/// Runs a test.
-pub fn run_test(alloc: Global, group: &Value, test: &Value) -> Result<(), Difference> {
-    let key = bytes(alloc, test, "key");
-    let place = integer(group, "place");
+/// Runs a key.
+fn run_key(alloc: Global, key: &[u8], place: u64, expected: &Value) -> Result<(), Difference> {
     if place.checked_add(key.len() as u64).is_none() {
         return Err(Difference::Setting);
     }
-    let expected = object(test, "result");
-    let is_expected = match (Key::read(key.as_slice(), place), text(expected, "verdict")) {
+    let is_expected = match (Key::read(key, place), text(expected, "verdict")) {
         (Ok(key), "key") => is_key(alloc, &key, expected),
         (Err(refusal), "refused") => Refused::read(expected).is(refusal),
         _ => false,
     };
     holds(is_expected, Way::Slice)
+}
+
+/// Runs a test.
+pub fn run_test(alloc: Global, group: &Value, test: &Value) -> Result<(), Difference> {
+    let key = bytes(alloc, test, "key");
+    run_key(
+        alloc,
+        key.as_slice(),
+        integer(group, "place"),
+        object(test, "result"),
+    )
 }

@@ -22,23 +22,32 @@ fn counted_in<const N: usize>(set: &[u8]) -> Result<usize, Refusal>
     Ok(table.count())
 }
 
-/// Runs a test.
-pub fn run_test(alloc: Global, group: &Value, test: &Value) -> Result<(), Difference> {
-    let set = bytes(alloc, test, "set");
-    let set = set.as_slice();
-    let count = match optional_integer(group, "table") {
-        None => counted(set),
-        Some(1) => counted_in::<1>(set),
-        Some(2) => counted_in::<2>(set),
-        Some(16) => counted_in::<16>(set),
-        Some(256) => counted_in::<256>(set),
-        Some(_) => return Err(Difference::Setting),
-    };
-    let expected = object(test, "result");
-    let is_expected = match (count, text(expected, "verdict")) {
+/// How many keys of a set are usable, or of those held by a table of this room.
+fn count_of(set: &[u8], table: Option<u64>) -> Option<Result<usize, Refusal>> {
+    match table {
+        None => Some(counted(set)),
+        Some(1) => Some(counted_in::<1>(set)),
+        Some(2) => Some(counted_in::<2>(set)),
+        Some(16) => Some(counted_in::<16>(set)),
+        Some(256) => Some(counted_in::<256>(set)),
+        Some(_) => None,
+    }
+}
+
+/// Whether this is the expected result.
+fn is_expected(count: Result<usize, Refusal>, expected: &Value) -> bool {
+    match (count, text(expected, "verdict")) {
         (Ok(count), "set") => count as u64 == integer(expected, "usable"),
         (Err(refusal), "refused") => Refused::read(expected).is(refusal),
         _ => false,
-    };
-    holds(is_expected, Way::Slice)
+    }
+}
+
+/// Runs a test.
+pub fn run_test(alloc: Global, group: &Value, test: &Value) -> Result<(), Difference> {
+    let set = bytes(alloc, test, "set");
+    match count_of(set.as_slice(), optional_integer(group, "table")) {
+        Some(count) => holds(is_expected(count, object(test, "result")), Way::Slice),
+        None => Err(Difference::Setting),
+    }
 }

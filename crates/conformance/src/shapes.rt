@@ -5,7 +5,7 @@ ghost use Rattle.cose_msg.specs.Kept.{is_inspecting};
 ghost use Rattle.cose_msg.specs.Verifier.{is_detached};
 
 use crate::expected::{Refused, name_of};
-use crate::fields::{Difference, Way, array, bytes, holds, integer, object, text};
+use crate::fields::{Difference, Way, array, bytes, holds, integer, limits, object, text};
 use crate::messages::CUTS;
 use crate::setting::{Setting, label_of};
 use cose_msg::{Bucket, Inspected, KeySet, Label, Nothing, SliceIntake, Status, Verifier, inspect};
@@ -117,19 +117,31 @@ impl<'v> Expected<'v> {
 }
 
 /// A message with what is expected of it.
-#[derive(Clone, Copy)]
-struct Case<'c, 'v> {
-    message: &'c [u8],
+#[derive(Drop)]
+struct Case<'v> {
+    message: Vec<u8>,
     expected: Expected<'v>,
     /// How many bytes of the message decide it.
     taken: u64,
+}
+
+impl<'v> Case<'v> {
+    /// The message of a test.
+    fn read(alloc: Global, test: &'v Value) -> Self {
+        let result = object(test, "result");
+        Case {
+            message: bytes(alloc, test, "message"),
+            expected: Expected::read(result),
+            taken: integer(result, "taken"),
+        }
+    }
 }
 
 /// Whether a verifier has taken the expected number of bytes, and gives the expected pairs.
 fn shows<const H: usize, const D: usize>(
     alloc: Global,
     verifier: &Verifier<'_, H, D>,
-    case: &Case<'_, '_>,
+    case: &Case<'_>,
 ) -> bool {
     let has_buckets = match case.expected {
         Expected::Shape {
@@ -149,14 +161,14 @@ fn shows<const H: usize, const D: usize>(
 fn is_inspected<const H: usize, const D: usize>(
     alloc: Global,
     verifier: &mut Verifier<'_, H, D>,
-    case: &Case<'_, '_>,
+    case: &Case<'_>,
     cut: usize,
 ) -> bool
     requires inspects { is_inspecting verifier.old ≡ true }
     requires attached { is_detached verifier.old ≡ false }
     requires some { 0 < cut }
 {
-    let mut intake = SliceIntake::new(case.message, cut);
+    let mut intake = SliceIntake::new(case.message.as_slice(), cut);
     match inspect::<4_096, H, D, _, _, _>(verifier, &mut intake, &mut Nothing) {
         Ok(inspected) => { case.expected.is(inspected, case.taken) && shows(alloc, verifier, case) }
         Err(_) => false,
@@ -167,13 +179,13 @@ fn is_inspected<const H: usize, const D: usize>(
 fn is_fed<const H: usize, const D: usize>(
     alloc: Global,
     verifier: &mut Verifier<'_, H, D>,
-    case: &Case<'_, '_>,
+    case: &Case<'_>,
     cut: usize,
 ) -> bool
     requires some { 0 < cut }
 {
     let mut payload = 0u64;
-    'pieces: for piece in case.message.chunks(cut) {
+    'pieces: for piece in case.message.as_slice().chunks(cut) {
         let count = verifier.feed(piece).payload_of(piece).len() as u64;
         payload = payload.saturating_add(count);
     }
@@ -194,11 +206,45 @@ fn inspecting<'k, const H: usize, const D: usize>(
     Verifier::inspecting(setting.context(keys))
 }
 
+/// Inspects a message in pieces of at most `cut` bytes.
+fn run_inspect<'k, const H: usize, const D: usize>(
+    alloc: Global,
+    setting: &'k Setting<'_>,
+    keys: KeySet<'k>,
+    case: &Case<'_>,
+    cut: usize,
+) -> Result<(), Difference>
+    requires some_room { 16 ≤ H }
+    requires limit { H ≤ 65535 }
+    requires nesting { D ≤ 32 }
+    requires some { 0 < cut }
+{
+    let mut verifier = inspecting::<H, D>(setting, keys);
+    holds(is_inspected(alloc, &mut verifier, case, cut), Way::Verify)
+}
+
+/// Feeds a message in pieces of at most `cut` bytes.
+fn run_feed<'k, const H: usize, const D: usize>(
+    alloc: Global,
+    setting: &'k Setting<'_>,
+    keys: KeySet<'k>,
+    case: &Case<'_>,
+    cut: usize,
+) -> Result<(), Difference>
+    requires some_room { 16 ≤ H }
+    requires limit { H ≤ 65535 }
+    requires nesting { D ≤ 32 }
+    requires some { 0 < cut }
+{
+    let mut verifier = inspecting::<H, D>(setting, keys);
+    holds(is_fed(alloc, &mut verifier, case, cut), Way::Feed)
+}
+
 /// Runs a message at a header limit and a nesting.
 fn run_at<const H: usize, const D: usize>(
     alloc: Global,
     setting: &Setting<'_>,
-    case: &Case<'_, '_>,
+    case: &Case<'_>,
 ) -> Result<(), Difference>
     requires some_room { 16 ≤ H }
     requires limit { H ≤ 65535 }
@@ -208,28 +254,30 @@ fn run_at<const H: usize, const D: usize>(
         return Err(Difference::Setting);
     };
     'cuts: for cut in CUTS {
-        let mut verifier = inspecting::<H, D>(setting, keys);
-        holds(is_inspected(alloc, &mut verifier, case, cut), Way::Verify)?;
-        let mut fed = inspecting::<H, D>(setting, keys);
-        holds(is_fed(alloc, &mut fed, case, cut), Way::Feed)?;
+        run_inspect::<H, D>(alloc, setting, keys, case, cut)?;
+        run_feed::<H, D>(alloc, setting, keys, case, cut)?;
     }
     Ok(())
+}
+
+/// Runs a message at the limits of its group.
+fn run_limits(
+    alloc: Global,
+    setting: &Setting<'_>,
+    group: &Value,
+    case: &Case<'_>,
+) -> Result<(), Difference> {
+    match limits(group) {
+        (16, 1) => run_at::<16, 1>(alloc, setting, case),
+        (64, 4) => run_at::<64, 4>(alloc, setting, case),
+        (1_024, 8) => run_at::<1_024, 8>(alloc, setting, case),
+        _ => Err(Difference::Setting),
+    }
 }
 
 /// Runs a test.
 pub fn run_test(alloc: Global, group: &Value, test: &Value) -> Result<(), Difference> {
     let setting = Setting::read(alloc, group);
-    let message = bytes(alloc, test, "message");
-    let result = object(test, "result");
-    let case = Case {
-        message: message.as_slice(),
-        expected: Expected::read(result),
-        taken: integer(result, "taken"),
-    };
-    match (integer(group, "headerLimit"), integer(group, "nesting")) {
-        (16, 1) => run_at::<16, 1>(alloc, &setting, &case),
-        (64, 4) => run_at::<64, 4>(alloc, &setting, &case),
-        (1_024, 8) => run_at::<1_024, 8>(alloc, &setting, &case),
-        _ => Err(Difference::Setting),
-    }
+    let case = Case::read(alloc, test);
+    run_limits(alloc, &setting, group, &case)
 }

@@ -1,7 +1,7 @@
 //! The bytes of the authenticated structures before the payload.
 
 use crate::choices::kind_of;
-use crate::fields::{Difference, Way, bytes, holds, number, object};
+use crate::fields::{Difference, Way, bytes, holds, object, payload_length};
 use cose_mac::{Alg, Kind, Running, structure_front};
 use serde_json::Value;
 use std::alloc::Global;
@@ -22,12 +22,12 @@ fn is_front(kind: Kind, protected: &[u8], aad: &[u8], payload_length: u64, front
 
 /// Runs a test.
 pub fn run_test(alloc: Global, test: &Value) -> Result<(), Difference> {
+    let Some(length) = payload_length(test) else {
+        return Err(Difference::Setting);
+    };
     let protected = bytes(alloc, test, "protected");
     let aad = bytes(alloc, test, "aad");
     let front = bytes(alloc, object(test, "result"), "front");
-    let Ok(length) = u64::try_from(number(test, "payloadLength")) else {
-        return Err(Difference::Setting);
-    };
     let is_expected = is_front(
         kind_of(test),
         protected.as_slice(),

@@ -73,21 +73,45 @@ fn is_text(row: &Value, item: &ItemRef<'_>) -> bool {
     item.is_text() && item.as_text() == row.get("value").and_then(Value::as_str)
 }
 
-/// Whether an item is what is expected.
-fn is_value(alloc: Global, row: &Value, item: &ItemRef<'_>) -> bool {
-    let is_it = match text(row, "verdict") {
+/// Whether an item is a byte string of these bytes.
+fn is_bytes(alloc: Global, row: &Value, item: &ItemRef<'_>) -> bool {
+    item.as_bytes() == Some(bytes(alloc, row, "value").as_slice())
+}
+
+/// Whether an item is a truth value, and this one.
+fn is_boolean(row: &Value, item: &ItemRef<'_>) -> bool {
+    item.as_bool().is_some() && item.as_bool() == boolean(row, "value")
+}
+
+/// Whether an item is an array or a map of these items.
+fn is_container(alloc: Global, row: &Value, item: &ItemRef<'_>) -> bool {
+    let is_kind = match text(row, "verdict") {
+        "array" => item.is_array(),
+        _ => item.is_map(),
+    };
+    is_kind && are_children(alloc, array(row, "children"), item)
+}
+
+/// Whether an item that isn't a simple value is what is expected.
+fn is_typed(alloc: Global, row: &Value, item: &ItemRef<'_>) -> bool {
+    match text(row, "verdict") {
         "integer" => item.as_int() == Some(number(row, "value")),
-        "bytes" => item.as_bytes() == Some(bytes(alloc, row, "value").as_slice()),
+        "bytes" => is_bytes(alloc, row, item),
         "text" => is_text(row, item),
-        "array" => item.is_array() && are_children(alloc, array(row, "children"), item),
-        "map" => item.is_map() && are_children(alloc, array(row, "children"), item),
+        "array" | "map" => is_container(alloc, row, item),
         "tag" => is_tag(alloc, row, item),
         "float" => item.is_float(),
-        "boolean" => item.as_bool().is_some() && item.as_bool() == boolean(row, "value"),
-        "simple" => return is_simple(row, item),
-        _ => return false,
-    };
-    is_it && kinds(item) == 1
+        "boolean" => is_boolean(row, item),
+        _ => false,
+    }
+}
+
+/// Whether an item is what is expected.
+fn is_value(alloc: Global, row: &Value, item: &ItemRef<'_>) -> bool {
+    if text(row, "verdict") == "simple" {
+        return is_simple(row, item);
+    }
+    is_typed(alloc, row, item) && kinds(item) == 1
 }
 
 /// Why bytes from a place on aren't one item, where the item that they begin with is read so.
@@ -105,28 +129,39 @@ fn refusal_of(read: Result<Span, Refusal>, place: u64, length: usize) -> Option<
     }
 }
 
-/// Runs a test.
-pub fn run_test(alloc: Global, group: &Value, test: &Value) -> Result<(), Difference> {
-    let item = bytes(alloc, test, "item");
-    let item = item.as_slice();
+/// Runs bytes as one item, which stands at the place of the group.
+fn run_item(alloc: Global, group: &Value, row: &Value, item: &[u8]) -> Result<(), Difference> {
     let place = integer(group, "place");
     let nesting = nesting_of(group);
-    let result = object(test, "result");
     if place.checked_add(item.len() as u64).is_none() {
         return Err(Difference::Setting);
     }
-    let read = read_item(item, item.len(), nesting);
-    let refusal = refusal_of(read, place, item.len());
+    let refusal = refusal_of(read_item(item, item.len(), nesting), place, item.len());
     let is_it = match ItemRef::read(item, place, nesting) {
-        Ok(one) => refusal.is_none() && is_value(alloc, result, &one),
-        Err(refused) => refusal == Some(refused) && is_refused(result, refused),
+        Ok(one) => refusal.is_none() && is_value(alloc, row, &one),
+        Err(refused) => refusal == Some(refused) && is_refused(row, refused),
     };
-    holds(is_it, Way::Slice)?;
+    holds(is_it, Way::Slice)
+}
+
+/// Walks bytes as an item.
+fn run_walk(item: &[u8], nesting: usize) -> Result<(), Difference>
+    requires { nesting ≤ 32 }
+{
     let walk = Walk {
         item,
         room: item.len(),
-        read,
+        read: read_item(item, item.len(), nesting),
         going: None,
     };
     walk.run(nesting)
+}
+
+/// Runs a test.
+pub fn run_test(alloc: Global, group: &Value, test: &Value) -> Result<(), Difference> {
+    let item = bytes(alloc, test, "item");
+    match run_item(alloc, group, object(test, "result"), item.as_slice()) {
+        Ok(()) => run_walk(item.as_slice(), nesting_of(group)),
+        Err(difference) => Err(difference),
+    }
 }
