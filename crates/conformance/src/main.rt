@@ -39,8 +39,41 @@ use std::process::ExitCode;
 use std::rt::Files;
 use std::{fs, io};
 
-/// The files, by their schema: those of rows/ but `commands`, which is for the program.
-const SCHEMAS: [&str; 24] = [
+/// What the rows of a file are about.
+#[derive(Clone, Copy)]
+enum Subject {
+    /// Items, and the buckets that they make.
+    Items,
+    /// Keys, and their choice.
+    Keys,
+    /// Messages, and what they are computed of.
+    Messages,
+    /// Tokens, and their claims.
+    Tokens,
+}
+
+/// Each subject.
+const SUBJECTS: [Subject; 4] = [
+    Subject::Items,
+    Subject::Keys,
+    Subject::Messages,
+    Subject::Tokens,
+];
+
+impl Subject {
+    /// The files, by their schema: those of rows/ but `commands`, which is for the program.
+    fn schemas(self) -> &'static [&'static str] {
+        match self {
+            Subject::Items => ITEMS,
+            Subject::Keys => KEYS,
+            Subject::Messages => MESSAGES,
+            Subject::Tokens => TOKENS,
+        }
+    }
+}
+
+/// The files about items.
+const ITEMS: &[&str] = &[
     "algorithms",
     "further",
     "heads",
@@ -48,11 +81,13 @@ const SCHEMAS: [&str; 24] = [
     "values",
     "buckets",
     "headers",
-    "keys",
-    "sets",
-    "choices",
-    "okp_keys",
-    "further_choices",
+];
+
+/// The files about keys.
+const KEYS: &[&str] = &["keys", "sets", "choices", "okp_keys", "further_choices"];
+
+/// The files about messages.
+const MESSAGES: &[&str] = &[
     "further_messages",
     "macs",
     "digests",
@@ -62,10 +97,10 @@ const SCHEMAS: [&str; 24] = [
     "shapes",
     "made",
     "signed",
-    "claims",
-    "tokens",
-    "requirements",
 ];
+
+/// The files about tokens.
+const TOKENS: &[&str] = &["claims", "tokens", "requirements"];
 
 /// How many tests were run, and how many of them differ.
 #[derive(Clone, Copy)]
@@ -74,8 +109,8 @@ struct Count {
     differ: u64,
 }
 
-/// Runs a test of a schema.
-fn run_test(alloc: Global, schema: &str, group: &Value, test: &Value) -> Result<(), Difference> {
+/// Runs a test about items.
+fn run_items(alloc: Global, schema: &str, group: &Value, test: &Value) -> Result<(), Difference> {
     match schema {
         "algorithms" => algorithms::run_test(test),
         "further" => further::run_test(test),
@@ -84,11 +119,30 @@ fn run_test(alloc: Global, schema: &str, group: &Value, test: &Value) -> Result<
         "values" => values::run_test(alloc, group, test),
         "buckets" => buckets::run_test(alloc, group, test),
         "headers" => headers::run_test(alloc, group, test),
+        _ => Err(Difference::Setting),
+    }
+}
+
+/// Runs a test about keys.
+fn run_keys(alloc: Global, schema: &str, group: &Value, test: &Value) -> Result<(), Difference> {
+    match schema {
         "keys" => keys::run_test(alloc, group, test),
         "sets" => sets::run_test(alloc, group, test),
         "choices" => choices::run_test(alloc, group, test),
         "okp_keys" => okp_keys::run_test(alloc, group, test),
         "further_choices" => okp_keys::run_choice(alloc, group, test),
+        _ => Err(Difference::Setting),
+    }
+}
+
+/// Runs a test about messages.
+fn run_messages(
+    alloc: Global,
+    schema: &str,
+    group: &Value,
+    test: &Value,
+) -> Result<(), Difference> {
+    match schema {
         "further_messages" => further_messages::run_test(alloc, group, test),
         "macs" => macs::run_test(alloc, group, test),
         "digests" => digests::run_test(alloc, group, test),
@@ -98,6 +152,13 @@ fn run_test(alloc: Global, schema: &str, group: &Value, test: &Value) -> Result<
         "shapes" => shapes::run_test(alloc, group, test),
         "made" => made::run_test(alloc, group, test),
         "signed" => signed::run_test(alloc, test),
+        _ => Err(Difference::Setting),
+    }
+}
+
+/// Runs a test about tokens.
+fn run_tokens(alloc: Global, schema: &str, group: &Value, test: &Value) -> Result<(), Difference> {
+    match schema {
         "claims" => claims::run_test(alloc, group, test),
         "tokens" => tokens::run_test(alloc, group, test),
         "requirements" => requirements::run_test(alloc, group, test),
@@ -105,19 +166,43 @@ fn run_test(alloc: Global, schema: &str, group: &Value, test: &Value) -> Result<
     }
 }
 
+/// A file of rows.
+#[derive(Clone, Copy)]
+struct File {
+    subject: Subject,
+    schema: &'static str,
+}
+
+impl File {
+    /// Runs a test.
+    fn run_test(self, alloc: Global, group: &Value, test: &Value) -> Result<(), Difference> {
+        match self.subject {
+            Subject::Items => run_items(alloc, self.schema, group, test),
+            Subject::Keys => run_keys(alloc, self.schema, group, test),
+            Subject::Messages => run_messages(alloc, self.schema, group, test),
+            Subject::Tokens => run_tokens(alloc, self.schema, group, test),
+        }
+    }
+}
+
+/// Prints how a test differs.
+fn print(rt: &impl Print, schema: &str, test: u64, difference: Difference) -> io::Result<()> {
+    let how = difference.name();
+    println!(rt; "{schema} {test}: {how}")
+}
+
 /// Runs the tests of a group, prints those that differ, and counts both.
 fn run_group(
     rt: &(impl Print + AllocGlobal),
-    schema: &str,
+    file: File,
     group: &Value,
     count: &mut Count,
 ) -> io::Result<()> {
     for test in array(group, "tests") {
         count.tests = count.tests.saturating_add(1);
-        if let Err(difference) = run_test(rt.alloc(), schema, group, test) {
+        if let Err(difference) = file.run_test(rt.alloc(), group, test) {
             count.differ = count.differ.saturating_add(1);
-            let how = difference.name();
-            println!(rt; "{schema} {}: {how}", count.tests)?;
+            print(rt, file.schema, count.tests, difference)?;
         }
     }
     Ok(())
@@ -128,32 +213,69 @@ fn malformed() -> Error {
     Error::from(ErrorKind::InvalidData)
 }
 
-/// Runs the file of a schema, and counts its tests.
-fn run_file(rt: &(impl Print + Files + AllocGlobal), schema: &str) -> io::Result<Count> {
+/// The bytes of the file of a schema.
+fn read(rt: &(impl Files + AllocGlobal), schema: &str) -> io::Result<Vec<u8>> {
     let name = format!(in rt.alloc(); "{schema}.json")?;
-    let text = fs::read(rt, name.as_str())?;
-    let Ok(file) = Value::from_slice(rt.alloc(), text.as_slice()) else {
-        return Err(malformed());
-    };
+    fs::read(rt, name.as_str())
+}
+
+/// The rows that bytes are.
+fn parsed(alloc: Global, text: &[u8]) -> io::Result<Value> {
+    match Value::from_slice(alloc, text) {
+        Ok(rows) => Ok(rows),
+        Err(_) => Err(malformed()),
+    }
+}
+
+/// The rows of a schema.
+fn rows_of(rt: &(impl Files + AllocGlobal), schema: &str) -> io::Result<Value> {
+    let text = read(rt, schema)?;
+    parsed(rt.alloc(), text.as_slice())
+}
+
+/// Runs these groups of a file, and counts their tests.
+fn run_groups(rt: &(impl Print + AllocGlobal), file: File, groups: &[Value]) -> io::Result<Count> {
     let mut count = Count {
         tests: 0,
         differ: 0,
     };
-    for group in array(&file, "testGroups") {
-        run_group(rt, schema, group, &mut count)?;
+    for group in groups {
+        run_group(rt, file, group, &mut count)?;
     }
-    println!(rt; "{schema}: {} tests, {} differ", count.tests, count.differ)?;
     Ok(count)
 }
 
-fn main(rt: HostRuntime) -> io::Result<ExitCode> {
+/// Runs a file, prints how many tests it has, and returns how many of them differ.
+fn run_file(rt: &(impl Print + Files + AllocGlobal), file: File) -> io::Result<u64> {
+    let rows = rows_of(rt, file.schema)?;
+    let Count { tests, differ } = run_groups(rt, file, array(&rows, "testGroups"))?;
+    println!(rt; "{}: {tests} tests, {differ} differ", file.schema)?;
+    Ok(differ)
+}
+
+/// Runs the files about a subject, and returns how many tests differ.
+fn run_subject(rt: &(impl Print + Files + AllocGlobal), subject: Subject) -> io::Result<u64> {
     let mut differ = 0u64;
-    for schema in SCHEMAS {
-        let count = run_file(&rt, schema)?;
-        differ = differ.saturating_add(count.differ);
+    for schema in subject.schemas() {
+        let file = File { subject, schema };
+        differ = differ.saturating_add(run_file(rt, file)?);
     }
-    if differ > 0 {
-        return Ok(ExitCode::from(1));
+    Ok(differ)
+}
+
+/// Runs all files, and returns how many tests differ.
+fn run_all(rt: &(impl Print + Files + AllocGlobal)) -> io::Result<u64> {
+    let mut differ = 0u64;
+    for subject in SUBJECTS {
+        differ = differ.saturating_add(run_subject(rt, subject)?);
     }
-    Ok(ExitCode::SUCCESS)
+    Ok(differ)
+}
+
+fn main(rt: HostRuntime) -> io::Result<ExitCode> {
+    match run_all(&rt) {
+        Ok(0) => Ok(ExitCode::SUCCESS),
+        Ok(_) => Ok(ExitCode::from(1)),
+        Err(error) => Err(error),
+    }
 }
