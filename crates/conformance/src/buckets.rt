@@ -2,7 +2,7 @@
 
 ghost use Rattle.std.specs.Prelude.{◌≤◌, ◌+◌, ◌<◌, ◌^◌, length};
 
-use crate::fields::{Difference, Way, array, bytes, holds, integer, object, text};
+use crate::fields::{Difference, Way, array, bytes, has_bytes, holds, integer, object, text};
 use crate::items::{is_refused, nesting_of};
 use crate::keys::are_bytes;
 use crate::setting::label_of;
@@ -18,14 +18,16 @@ fn is_pair(
     item: &ItemRef<'_>,
     value: &ItemRef<'_>,
 ) -> bool {
-    let data = expected.get(2).and_then(Value::as_str).unwrap_or("?");
-    match hex::decode(alloc, data) {
-        Ok(data) => {
-            expected.get(0).and_then(label_of) == Some(*label)
-                && expected.get(1).and_then(Value::as_u64) == Some(item.place)
-                && data.as_slice() == value.bytes
-        }
-        Err(_) => false,
+    expected.get(0).and_then(label_of) == Some(*label)
+        && expected.get(1).and_then(Value::as_u64) == Some(item.place)
+        && has_bytes(alloc, expected.get(2), value.bytes)
+}
+
+/// Whether a bucket finds this value of a label.
+fn is_found(bucket: &Bucket<'_>, label: &Label<'_>, value: &ItemRef<'_>) -> bool {
+    match bucket.get(label) {
+        Some(found) => found.place == value.place && bucket.has(label),
+        None => false,
     }
 }
 
@@ -36,11 +38,7 @@ fn has_pairs(alloc: Global, expected: &[Value], bucket: &Bucket<'_>) -> bool {
         let Some((label, item, value)) = pairs.next() else {
             return false;
         };
-        let Some(found) = bucket.get(&label) else {
-            return false;
-        };
-        let is_found = found.place == value.place && bucket.has(&label);
-        if !is_found || !is_pair(alloc, pair, &label, &item, &value) {
+        if !is_found(bucket, &label, &value) || !is_pair(alloc, pair, &label, &item, &value) {
             return false;
         }
     }

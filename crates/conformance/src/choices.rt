@@ -5,7 +5,7 @@ use crate::fields::{
 };
 use crate::keys::are_bytes;
 use crate::setting::label;
-use cose_map::{Key, KeySet, KeyTable, Keys, Kind, Label, Material, Query, Restrictions};
+use cose_map::{Key, KeySet, KeyTable, Keys, Kind, Label, Material, Query, Reason, Restrictions};
 use serde_json::Value;
 use std::alloc::Global;
 
@@ -37,21 +37,25 @@ fn is_found(alloc: Global, key: &Key<'_>, expected: &Value) -> bool {
 }
 
 /// Whether the expected key is found, and the algorithm, or none for the expected reason.
-fn is_chosen<'k, K: Keys<'k>>(
-    alloc: Global,
-    keys: &K,
-    query: &Query<'_>,
-    expected: &Value,
-) -> Result<(), Difference> {
-    let is_expected = match (keys.find(query), text(expected, "verdict")) {
+fn is_answer(alloc: Global, found: Result<(Key<'_>, i128), Reason>, expected: &Value) -> bool {
+    match (found, text(expected, "verdict")) {
         (Ok((key, algorithm)), "found") => {
             let is_alg = label(expected, "alg") == Some(Label::Int(algorithm));
             is_alg && is_found(alloc, &key, expected)
         }
         (Err(reason), "refused") => text(expected, "reason") == reason.name(),
         _ => false,
-    };
-    holds(is_expected, Way::Slice)
+    }
+}
+
+/// Runs a query in these keys.
+fn is_chosen<'k, K: Keys<'k>>(
+    alloc: Global,
+    keys: &K,
+    query: &Query<'_>,
+    expected: &Value,
+) -> Result<(), Difference> {
+    holds(is_answer(alloc, keys.find(query), expected), Way::Slice)
 }
 
 /// Whether the key that is found stands where it is expected, where that is said, and no place is given where none is found.

@@ -59,6 +59,23 @@ pub fn feed<'k, const H: usize, const D: usize, K: Keys<'k>, S: Sink>(
     hash
 }
 
+/// Feeds a piece of a payload as far as it is wanted, to the hash too, where there is one.
+fn feed_piece<'k, const H: usize, const D: usize, K: Keys<'k>>(
+    verifier: &mut Verifier<'k, H, D, K>,
+    piece: &[u8],
+    hash: &mut Option<Running>,
+    came: &mut Comparison<'_>,
+) {
+    if verifier.payload_wanted() > 0 {
+        let taken = verifier.feed_payload(piece);
+        let part = piece.get(..taken).unwrap_or(&[]);
+        came.compare(part);
+        if let Some(running) = hash {
+            running.update(part);
+        }
+    }
+}
+
 /// The hash of the structure of a message whose payload is detached, where both are fed in pieces of at most `cut` bytes: as much of
 /// the message as is used before the payload, the payload as far as it is wanted, and the rest.
 pub fn feed_detached<'k, const H: usize, const D: usize, K: Keys<'k>>(
@@ -73,14 +90,7 @@ pub fn feed_detached<'k, const H: usize, const D: usize, K: Keys<'k>>(
     let used = used_of(verifier, message, cut);
     let mut hash = begun(verifier);
     for piece in payload.chunks(cut) {
-        if verifier.payload_wanted() > 0 {
-            let taken = verifier.feed_payload(piece);
-            let part = piece.get(..taken).unwrap_or(&[]);
-            came.compare(part);
-            if let Some(running) = &mut hash {
-                running.update(part);
-            }
-        }
+        feed_piece(verifier, piece, &mut hash, came);
     }
     used_of(verifier, message.get(used..).unwrap_or(&[]), cut);
     hash

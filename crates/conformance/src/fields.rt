@@ -105,6 +105,14 @@ pub fn decoded(alloc: Global, digits: &str) -> Vec<u8> {
     }
 }
 
+/// Whether a value is a text that has these bytes in hexadecimal.
+pub fn has_bytes(alloc: Global, value: Option<&Value>, bytes: &[u8]) -> bool {
+    match hex::decode(alloc, value.and_then(Value::as_str).unwrap_or("?")) {
+        Ok(decoded) => decoded.as_slice() == bytes,
+        Err(_) => false,
+    }
+}
+
 /// Bytes in hexadecimal.
 pub fn bytes(alloc: Global, object: &Value, name: &str) -> Vec<u8> {
     decoded(alloc, text(object, name))

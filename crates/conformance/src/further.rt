@@ -12,15 +12,17 @@ fn are_curves(row: &Value, alg: FurtherAlg) -> bool {
         && alg.takes(OkpCurve::Ed448) == is_listed(curves, 7)
 }
 
+/// Whether an algorithm is the expected one, of this number.
+fn is_algorithm(row: &Value, number: i128, alg: FurtherAlg) -> bool {
+    text(row, "verdict") == "algorithm" && alg.number() == number && are_curves(row, alg)
+}
+
 /// Runs a test.
 pub fn run_test(test: &Value) -> Result<(), Difference> {
     let number = number(test, "alg");
     let result = object(test, "result");
     let is_it = match FurtherAlg::from_number(number) {
-        Some(alg) => {
-            let is_algorithm = text(result, "verdict") == "algorithm";
-            is_algorithm && alg.number() == number && are_curves(result, alg)
-        }
+        Some(alg) => is_algorithm(result, number, alg),
         None => text(result, "verdict") == "unknown",
     };
     holds(is_it, Way::Slice)

@@ -5,7 +5,7 @@ ghost use Rattle.std.specs.Prelude.{◌≤◌, ◌+◌, ◌<◌, ◌^◌, length
 use crate::fields::{Difference, Way, bytes, holds, integer, object, text};
 use crate::items::is_refused;
 use crate::setting::labels;
-use cose_map::{Bucket, Label, check_pair};
+use cose_map::{Bucket, Label, Refusal, check_pair};
 use serde_json::Value;
 use std::alloc::Global;
 
@@ -17,6 +17,14 @@ fn bucket_at<'b>(bucket: &'b [u8], place: u64) -> Result<Bucket<'b>, Difference>
     Bucket::read(bucket, place, 8).or(Err(Difference::Setting))
 }
 
+/// Whether this is the expected result.
+fn is_expected(checked: Result<(), Refusal>, row: &Value) -> bool {
+    match checked {
+        Ok(()) => text(row, "verdict") == "accepted",
+        Err(refusal) => is_refused(row, refusal),
+    }
+}
+
 /// Runs both buckets of a test.
 fn run_pair(
     test: &Value,
@@ -24,14 +32,10 @@ fn run_pair(
     unprotected: &[u8],
     understood: &[Label<'_>],
 ) -> Result<(), Difference> {
-    let row = object(test, "result");
     let protected = bucket_at(protected, integer(test, "protectedPlace"))?;
     let unprotected = bucket_at(unprotected, integer(test, "unprotectedPlace"))?;
-    let is_it = match check_pair(&protected, &unprotected, understood, integer(test, "after")) {
-        Ok(()) => text(row, "verdict") == "accepted",
-        Err(refusal) => is_refused(row, refusal),
-    };
-    holds(is_it, Way::Slice)
+    let checked = check_pair(&protected, &unprotected, understood, integer(test, "after"));
+    holds(is_expected(checked, object(test, "result")), Way::Slice)
 }
 
 /// Runs a test.

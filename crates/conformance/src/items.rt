@@ -127,14 +127,16 @@ pub fn is_refused(row: &Value, refusal: Refusal) -> bool {
     text(row, "verdict") == "refused" && Refused::read(row).is(refusal)
 }
 
+/// Whether the length and the depth of an item are the expected ones.
+fn is_span(row: &Value, span: Span) -> bool {
+    Some(span.length as u64) == optional_integer(row, "length")
+        && Some(span.depth as u64) == optional_integer(row, "depth")
+}
+
 /// Whether the reading of an item is the expected one.
 fn is_read(row: &Value, read: Result<Span, Refusal>) -> bool {
     match read {
-        Ok(span) => {
-            text(row, "verdict") == "item"
-                && Some(span.length as u64) == optional_integer(row, "length")
-                && Some(span.depth as u64) == optional_integer(row, "depth")
-        }
+        Ok(span) => text(row, "verdict") == "item" && is_span(row, span),
         Err(refusal) => is_refused(row, refusal),
     }
 }

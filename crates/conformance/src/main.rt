@@ -245,12 +245,22 @@ fn run_groups(rt: &(impl Print + AllocGlobal), file: File, groups: &[Value]) -> 
     Ok(count)
 }
 
-/// Runs a file, prints how many tests it has, and returns how many of them differ.
+/// Prints how many tests a file has, and how many of them differ.
+fn print_count(rt: &impl Print, schema: &str, count: Count) -> io::Result<()> {
+    println!(rt; "{schema}: {} tests, {} differ", count.tests, count.differ)
+}
+
+/// Runs the rows of a file, prints how many tests it has, and returns how many of them differ.
+fn run_rows(rt: &(impl Print + AllocGlobal), file: File, rows: &Value) -> io::Result<u64> {
+    let count = run_groups(rt, file, array(rows, "testGroups"))?;
+    print_count(rt, file.schema, count)?;
+    Ok(count.differ)
+}
+
+/// Runs a file, and returns how many of its tests differ.
 fn run_file(rt: &(impl Print + Files + AllocGlobal), file: File) -> io::Result<u64> {
     let rows = rows_of(rt, file.schema)?;
-    let Count { tests, differ } = run_groups(rt, file, array(&rows, "testGroups"))?;
-    println!(rt; "{}: {tests} tests, {differ} differ", file.schema)?;
-    Ok(differ)
+    run_rows(rt, file, &rows)
 }
 
 /// Runs the files about a subject, and returns how many tests differ.

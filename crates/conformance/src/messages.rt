@@ -286,6 +286,22 @@ fn run_lie<'k, const H: usize, const D: usize>(
     holds(is_found_out(&mut asking, case, lie), Way::Elsewhere)
 }
 
+/// Runs a message of which the caller states each lie under a key set.
+fn run_lies<'k, const H: usize, const D: usize>(
+    setting: &'k Setting<'_>,
+    set: KeySet<'k>,
+    case: &Case<'_>,
+) -> Result<(), Difference>
+    requires some_room { 16 ≤ H }
+    requires limit { H ≤ 65535 }
+    requires nesting { D ≤ 32 }
+{
+    'lies: for lie in LIES {
+        run_lie::<H, D>(setting, set, case, lie)?;
+    }
+    Ok(())
+}
+
 /// Runs a message whose bytes are all there, and its prefixes, under a key set.
 fn run_read<'k, const H: usize, const D: usize>(
     setting: &'k Setting<'_>,
@@ -330,9 +346,7 @@ fn run_under_set<'k, const H: usize, const D: usize>(
     'cuts: for cut in CUTS {
         run_cut::<H, D>(setting, set, case, cut)?;
     }
-    'lies: for lie in LIES {
-        run_lie::<H, D>(setting, set, case, lie)?;
-    }
+    run_lies::<H, D>(setting, set, case)?;
     run_read::<H, D>(setting, set, case)
 }
 

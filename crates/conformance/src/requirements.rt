@@ -44,10 +44,15 @@ fn requirements<'v>(group: &'v Value, present: &'v [Claim]) -> Requirements<'v> 
     }
 }
 
+/// The requirement that the claim of a result is there.
+fn presence(expected: &Value) -> Option<Requirement> {
+    Claim::from_name(text(expected, "claim")).map(Requirement::Present)
+}
+
 /// The requirement of a result.
 fn requirement(expected: &Value) -> Option<Requirement> {
     match text(expected, "requirement") {
-        "Present" => Some(Requirement::Present(Claim::from_name(text(expected, "claim"))?)),
+        "Present" => presence(expected),
         "Issuer" => Some(Requirement::Issuer),
         "Subject" => Some(Requirement::Subject),
         "Audience" => Some(Requirement::Audience),
@@ -70,21 +75,32 @@ fn is_expected(seen: Result<(), Unmet>, expected: &Value) -> bool {
     }
 }
 
-/// Runs a test.
-pub fn run_test(alloc: Global, group: &Value, test: &Value) -> Result<(), Difference> {
-    let payload = bytes(alloc, test, "payload");
+/// Runs a payload under the requirements of a group, with the claims that have to be there.
+fn run_payload(
+    group: &Value,
+    payload: &[u8],
+    present: &[Claim],
+    expected: &Value,
+) -> Result<(), Difference> {
     let nesting = integer(group, "nesting");
     if nesting > 32 {
         return Err(Difference::Setting);
     }
-    let present = claims_of(alloc, group);
-    let requirements = requirements(group, present.as_slice());
-    let Ok(claims) = Claims::read(payload.as_slice(), nesting as usize) else {
+    let Ok(claims) = Claims::read(payload, nesting as usize) else {
         return Err(Difference::Setting);
     };
-    let expected = object(test, "result");
-    holds(
-        is_expected(claims.meets(&requirements), expected),
-        Way::Slice,
+    let seen = claims.meets(&requirements(group, present));
+    holds(is_expected(seen, expected), Way::Slice)
+}
+
+/// Runs a test.
+pub fn run_test(alloc: Global, group: &Value, test: &Value) -> Result<(), Difference> {
+    let payload = bytes(alloc, test, "payload");
+    let present = claims_of(alloc, group);
+    run_payload(
+        group,
+        payload.as_slice(),
+        present.as_slice(),
+        object(test, "result"),
     )
 }

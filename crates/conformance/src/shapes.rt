@@ -5,7 +5,9 @@ ghost use Rattle.cose_msg.specs.Kept.{is_inspecting};
 ghost use Rattle.cose_msg.specs.Verifier.{is_detached};
 
 use crate::expected::{Refused, name_of};
-use crate::fields::{Difference, Way, array, bytes, holds, integer, limits, object, text};
+use crate::fields::{
+    Difference, Way, array, bytes, has_bytes, holds, integer, limits, object, text,
+};
 use crate::messages::CUTS;
 use crate::setting::{Setting, label_of};
 use cose_msg::{Bucket, Inspected, KeySet, Label, Nothing, SliceIntake, Status, Verifier, inspect};
@@ -37,16 +39,7 @@ enum Expected<'v> {
 
 /// Whether a label and the bytes of its value are this pair.
 fn is_pair(alloc: Global, pair: &Value, label: Label<'_>, value: &[u8]) -> bool {
-    let (Some(name), Some(digits)) = (
-        pair.get(0usize).and_then(label_of),
-        pair.get(1usize).and_then(Value::as_str),
-    ) else {
-        return false;
-    };
-    match hex::decode(alloc, digits) {
-        Ok(bytes) => name == label && bytes.as_slice() == value,
-        Err(_) => false,
-    }
+    pair.get(0usize).and_then(label_of) == Some(label) && has_bytes(alloc, pair.get(1usize), value)
 }
 
 /// Whether a bucket is there and has these pairs, in their order.

@@ -6,18 +6,28 @@ use cose_mac::{Alg, Kind, Running, structure_front};
 use serde_json::Value;
 use std::alloc::Global;
 
-/// Whether the digest and the MAC of what is fed of a structure are those of the expected bytes.
-fn is_front(kind: Kind, protected: &[u8], aad: &[u8], payload_length: u64, front: &[u8]) -> bool {
+/// Whether the digest of what is fed of a structure is that of the expected bytes.
+fn is_digest(kind: Kind, protected: &[u8], aad: &[u8], payload_length: u64, front: &[u8]) -> bool {
     let mut digest = Running::digest(Alg::Es256);
     structure_front(kind, protected, aad, payload_length, &mut digest);
-    let mut expected_digest = Running::digest(Alg::Es256);
-    expected_digest.update(front);
+    let mut expected = Running::digest(Alg::Es256);
+    expected.update(front);
+    digest.finish_digest().as_slice() == expected.finish_digest().as_slice()
+}
+
+/// Whether the MAC of what is fed of a structure is that of the expected bytes.
+fn is_mac(kind: Kind, protected: &[u8], aad: &[u8], payload_length: u64, front: &[u8]) -> bool {
     let mut mac = Running::hmac(Alg::Hmac256, b"Jefe");
     structure_front(kind, protected, aad, payload_length, &mut mac);
-    let mut expected_mac = Running::hmac(Alg::Hmac256, b"Jefe");
-    expected_mac.update(front);
-    let is_digest = digest.finish_digest().as_slice() == expected_digest.finish_digest().as_slice();
-    is_digest && mac.finish_mac().as_slice() == expected_mac.finish_mac().as_slice()
+    let mut expected = Running::hmac(Alg::Hmac256, b"Jefe");
+    expected.update(front);
+    mac.finish_mac().as_slice() == expected.finish_mac().as_slice()
+}
+
+/// Whether what is fed of a structure are the expected bytes, by their digest and their MAC.
+fn is_front(kind: Kind, protected: &[u8], aad: &[u8], payload_length: u64, front: &[u8]) -> bool {
+    is_digest(kind, protected, aad, payload_length, front)
+        && is_mac(kind, protected, aad, payload_length, front)
 }
 
 /// Runs a test.

@@ -211,6 +211,23 @@ fn run_elsewhere<const H: usize, const D: usize>(
     }
 }
 
+/// Runs each prefix of a token that is shorter than this.
+fn run_prefixes<const H: usize, const D: usize>(
+    case: &Case<'_, '_>,
+    token: &[u8],
+    length: usize,
+) -> Result<(), Difference>
+    requires some_room { 16 ≤ H }
+    requires limit { H ≤ 65535 }
+    requires nesting { D ≤ 32 }
+{
+    'prefixes: for end in 0..length {
+        let prefix = token.get(..end).unwrap_or(&[]);
+        holds(is_truncated::<H, D>(case, prefix), Way::Slice)?;
+    }
+    Ok(())
+}
+
 /// Runs a token at a header limit and a nesting, and each prefix that is shorter than an admitted one.
 fn run_at<const H: usize, const D: usize>(
     alloc: Global,
@@ -227,10 +244,7 @@ fn run_at<const H: usize, const D: usize>(
         run_elsewhere::<H, D>(alloc, case, token, cut, expected)?;
     }
     if text(expected, "verdict") == "admitted" {
-        'prefixes: for end in 0..integer(expected, "taken") as usize {
-            let prefix = token.get(..end).unwrap_or(&[]);
-            holds(is_truncated::<H, D>(case, prefix), Way::Slice)?;
-        }
+        return run_prefixes::<H, D>(case, token, integer(expected, "taken") as usize);
     }
     Ok(())
 }

@@ -2,7 +2,9 @@
 
 ghost use Rattle.std.specs.Prelude.{◌≤◌, ◌+◌, ◌<◌, ◌^◌, length};
 
-use crate::fields::{Difference, Way, array, boolean, bytes, holds, integer, number, object, text};
+use crate::fields::{
+    Difference, Way, array, boolean, bytes, has_bytes, holds, integer, number, object, text,
+};
 use crate::items::{Walk, is_refused, nesting_of};
 use cose_head::{ItemRef, Items, Reason, Refusal, Span, read_item};
 use serde_json::Value;
@@ -29,13 +31,8 @@ fn kinds(item: &ItemRef<'_>) -> usize {
 
 /// Whether an item in an array or a map has the place and the bytes of a pair.
 fn is_placed(alloc: Global, pair: &Value, item: &ItemRef<'_>) -> bool {
-    let data = pair.get(1).and_then(Value::as_str).unwrap_or("?");
-    match hex::decode(alloc, data) {
-        Ok(data) => {
-            pair.get(0).and_then(Value::as_u64) == Some(item.place) && data.as_slice() == item.bytes
-        }
-        Err(_) => false,
-    }
+    pair.get(0).and_then(Value::as_u64) == Some(item.place)
+        && has_bytes(alloc, pair.get(1), item.bytes)
 }
 
 /// Whether these are the items in an item.
