@@ -2,7 +2,7 @@
 
 ghost use Rattle.std.specs.Prelude.{◌≤◌, ◌+◌, ◌<◌, ◌^◌, length};
 
-use crate::fields::{Difference, Way, array, bytes, has_bytes, holds, integer, object, text};
+use crate::fields::{Difference, Way, array, bytes, has_bytes, holds, integer, is_verdict, object};
 use crate::items::{is_refused, nesting_of};
 use crate::keys::are_bytes;
 use crate::setting::label_of;
@@ -73,7 +73,7 @@ fn is_alg(row: &Value, bucket: &Bucket<'_>) -> bool {
 
 /// Whether a bucket is the expected one.
 fn is_bucket(alloc: Global, row: &Value, bucket: &Bucket<'_>) -> bool {
-    text(row, "verdict") == "bucket"
+    is_verdict(row, "bucket")
         && are_bytes(alloc, row, "kid", bucket.kid())
         && is_alg(row, bucket)
         && is_crit(row, bucket)

@@ -1,11 +1,12 @@
 //! The choice of a key, in a key set, in a table of its keys and in a reference to one.
 
 use crate::fields::{
-    Difference, Way, array, bytes, holds, integer, object, optional_bytes, optional_integer, text,
+    Difference, Way, array, bytes, holds, integer, is_verdict, object, optional_bytes,
+    optional_integer, text,
 };
 use crate::keys::are_bytes;
-use crate::setting::label;
-use cose_map::{Key, KeySet, KeyTable, Keys, Kind, Label, Material, Query, Reason, Restrictions};
+use crate::setting::{is_alg, label};
+use cose_map::{Key, KeySet, KeyTable, Keys, Kind, Material, Query, Reason, Restrictions};
 use serde_json::Value;
 use std::alloc::Global;
 
@@ -36,15 +37,20 @@ fn is_found(alloc: Global, key: &Key<'_>, expected: &Value) -> bool {
     }
 }
 
+/// Whether none is found for the expected reason.
+pub fn is_reason(reason: Reason, expected: &Value) -> bool {
+    is_verdict(expected, "refused") && text(expected, "reason") == reason.name()
+}
+
 /// Whether the expected key is found, and the algorithm, or none for the expected reason.
 fn is_answer(alloc: Global, found: Result<(Key<'_>, i128), Reason>, expected: &Value) -> bool {
-    match (found, text(expected, "verdict")) {
-        (Ok((key, algorithm)), "found") => {
-            let is_alg = label(expected, "alg") == Some(Label::Int(algorithm));
-            is_alg && is_found(alloc, &key, expected)
+    match found {
+        Ok((key, algorithm)) => {
+            is_verdict(expected, "found")
+                && is_alg(expected, algorithm)
+                && is_found(alloc, &key, expected)
         }
-        (Err(reason), "refused") => text(expected, "reason") == reason.name(),
-        _ => false,
+        Err(reason) => is_reason(reason, expected),
     }
 }
 

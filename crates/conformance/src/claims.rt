@@ -2,8 +2,8 @@
 
 ghost use Rattle.std.specs.Prelude.{◌≤◌};
 
-use crate::expected::Refused;
-use crate::fields::{Difference, Way, array, bytes, holds, integer, number, object, text};
+use crate::fields::{Difference, Way, array, bytes, holds, integer, is_verdict, number, object};
+use crate::items::is_refused;
 use crate::keys::{are_bytes, is_key};
 use cose_cwt::{Audience, Claims, Key, Policy, Refusal};
 use serde_json::Value;
@@ -30,12 +30,22 @@ fn optional_texts<'v>(alloc: Global, group: &'v Value, name: &str) -> Option<Vec
     Some(texts)
 }
 
+/// The time of a group, in seconds.
+pub fn now(group: &Value) -> i64 {
+    i64::try_from(number(group, "now")).unwrap_or(0)
+}
+
+/// The leeway of a group, in seconds.
+pub fn leeway(group: &Value) -> u32 {
+    u32::try_from(integer(group, "leeway")).unwrap_or(0)
+}
+
 impl<'v> Rules<'v> {
     /// The policy of a group.
     pub fn read(alloc: Global, group: &'v Value) -> Self {
         Rules {
-            now: i64::try_from(number(group, "now")).unwrap_or(0),
-            leeway: u32::try_from(integer(group, "leeway")).unwrap_or(0),
+            now: now(group),
+            leeway: leeway(group),
             audience: optional_texts(alloc, group, "audience"),
         }
     }
@@ -165,10 +175,11 @@ fn read<'p>(
 
 /// Whether these are the expected claims, or the expected refusal.
 fn is_expected(alloc: Global, claims: Result<Claims<'_>, Refusal>, expected: &Value) -> bool {
-    match (text(expected, "verdict"), claims) {
-        ("claims", Ok(claims)) => are_claims(alloc, &claims, object(expected, "claims")),
-        ("refused", Err(refusal)) => Refused::read(expected).is(refusal),
-        _ => false,
+    match claims {
+        Ok(claims) => {
+            is_verdict(expected, "claims") && are_claims(alloc, &claims, object(expected, "claims"))
+        }
+        Err(refusal) => is_refused(expected, refusal),
     }
 }
 

@@ -54,6 +54,11 @@ pub fn text<'v>(object: &'v Value, name: &str) -> &'v str {
     object.get(name).and_then(Value::as_str).unwrap_or("")
 }
 
+/// Whether the verdict of a result has this name.
+pub fn is_verdict(row: &Value, name: &str) -> bool {
+    text(row, "verdict") == name
+}
+
 /// An integer from 0 to 2^53.
 pub fn integer(object: &Value, name: &str) -> u64 {
     object.get(name).and_then(Value::as_u64).unwrap_or(u64::MAX)

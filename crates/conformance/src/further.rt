@@ -1,6 +1,6 @@
 //! The table of the signature algorithms that are left to the caller.
 
-use crate::fields::{Difference, Way, array, holds, number, object, text};
+use crate::fields::{Difference, Way, array, holds, is_verdict, number, object};
 use crate::keys::is_listed;
 use cose_head::{FurtherAlg, OkpCurve};
 use serde_json::Value;
@@ -14,7 +14,7 @@ fn are_curves(row: &Value, alg: FurtherAlg) -> bool {
 
 /// Whether an algorithm is the expected one, of this number.
 fn is_algorithm(row: &Value, number: i128, alg: FurtherAlg) -> bool {
-    text(row, "verdict") == "algorithm" && alg.number() == number && are_curves(row, alg)
+    is_verdict(row, "algorithm") && alg.number() == number && are_curves(row, alg)
 }
 
 /// Runs a test.
@@ -23,7 +23,7 @@ pub fn run_test(test: &Value) -> Result<(), Difference> {
     let result = object(test, "result");
     let is_it = match FurtherAlg::from_number(number) {
         Some(alg) => is_algorithm(result, number, alg),
-        None => text(result, "verdict") == "unknown",
+        None => is_verdict(result, "unknown"),
     };
     holds(is_it, Way::Slice)
 }

@@ -4,13 +4,13 @@ ghost use Rattle.std.specs.Prelude.{◌≤◌};
 
 use crate::expected::Refused;
 use crate::fields::{
-    Difference, Way, boolean, bytes, holds, integer, limits, object, optional_bytes, text,
+    Difference, Way, boolean, bytes, holds, integer, is_verdict, limits, object, optional_bytes,
 };
-use crate::setting::{Setting, label};
+use crate::setting::{Setting, is_alg};
 use crate::streams::Comparison;
 use cose_msg::{
-    Context, FrontPieces, FurtherAlg, FurtherAsk, FurtherVerified, FurtherVerifier, Label, OkpKey,
-    Reason, Refusal, ask_further, ask_further_detached, verify_further, verify_further_detached,
+    Context, FrontPieces, FurtherAlg, FurtherAsk, FurtherVerified, FurtherVerifier, OkpKey, Reason,
+    Refusal, ask_further, ask_further_detached, verify_further, verify_further_detached,
 };
 use serde_json::Value;
 use std::alloc::Global;
@@ -74,15 +74,16 @@ impl<'v> Case<'v> {
 
     /// Whether the message is authentic.
     fn is_authentic(&self) -> bool {
-        text(self.expected, "verdict") == "authentic"
+        is_verdict(self.expected, "authentic")
     }
 
     /// Whether this is the expected result.
     fn is(&self, verified: FurtherVerified<'_>) -> bool {
         match verified {
             FurtherVerified::Authentic { alg, payload } => {
-                let is_alg = label(self.expected, "alg") == Some(Label::Int(alg.number()));
-                self.is_authentic() && is_alg && payload == self.payload.as_slice()
+                self.is_authentic()
+                    && is_alg(self.expected, alg.number())
+                    && payload == self.payload.as_slice()
             }
             FurtherVerified::Refused(refusal) => {
                 !self.is_authentic() && Refused::read(self.expected).is(refusal)

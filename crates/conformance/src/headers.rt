@@ -2,7 +2,7 @@
 
 ghost use Rattle.std.specs.Prelude.{◌≤◌, ◌+◌, ◌<◌, ◌^◌, length};
 
-use crate::fields::{Difference, Way, bytes, holds, integer, object, text};
+use crate::fields::{Difference, Way, bytes, holds, integer, is_verdict, object};
 use crate::items::is_refused;
 use crate::setting::labels;
 use cose_map::{Bucket, Label, Refusal, check_pair};
@@ -20,7 +20,7 @@ fn bucket_at<'b>(bucket: &'b [u8], place: u64) -> Result<Bucket<'b>, Difference>
 /// Whether this is the expected result.
 fn is_expected(checked: Result<(), Refusal>, row: &Value) -> bool {
     match checked {
-        Ok(()) => text(row, "verdict") == "accepted",
+        Ok(()) => is_verdict(row, "accepted"),
         Err(refusal) => is_refused(row, refusal),
     }
 }

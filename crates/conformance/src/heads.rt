@@ -1,6 +1,8 @@
 //! The shortest heads.
 
-use crate::fields::{Difference, Way, bytes, holds, integer, object, text};
+ghost use Rattle.std.specs.Prelude.{◌≤◌};
+
+use crate::fields::{Difference, Way, bytes, holds, integer, is_verdict, object, text};
 use cose_head::{Head, HeadStep, parse_head, write_head};
 use serde_json::Value;
 use std::alloc::Global;
@@ -16,19 +18,21 @@ fn is_read(major: u8, arg: u64, head: &[u8]) -> bool {
     parse_head(head) == HeadStep::Got(read, length)
 }
 
+/// Whether these bytes are written as this head, and read as it.
+fn is_both(major: u8, arg: u64, head: &[u8]) -> bool
+    requires { major ≤ 6 }
+{
+    write_head(major, arg).as_slice() == head && is_read(major, arg, head)
+}
+
 /// Runs a head of this argument.
 fn run_head(test: &Value, arg: u64, head: &[u8]) -> Result<(), Difference> {
     let major = integer(test, "major");
     if major > 6 {
         return Err(Difference::Setting);
     }
-    let major = major as u8;
-    let is_head = text(object(test, "result"), "verdict") == "head";
-    let is_written = write_head(major, arg).as_slice() == head;
-    holds(
-        is_head && is_written && is_read(major, arg, head),
-        Way::Slice,
-    )
+    let is_head = is_verdict(object(test, "result"), "head");
+    holds(is_head && is_both(major as u8, arg, head), Way::Slice)
 }
 
 /// Runs a test.

@@ -3,7 +3,7 @@
 ghost use Rattle.std.specs.Prelude.{◌≤◌, length};
 
 use crate::expected::Refused;
-use crate::fields::{Difference, Way, bytes, holds, integer, object, optional_integer, text};
+use crate::fields::{Difference, Way, bytes, holds, integer, is_verdict, object, optional_integer};
 use cose_head::{Reason, Refusal, Span, Step, Walker, read_item};
 use serde_json::Value;
 use std::alloc::Global;
@@ -124,7 +124,7 @@ pub fn nesting_of(row: &Value) -> usize
 
 /// Whether a refusal is the expected result.
 pub fn is_refused(row: &Value, refusal: Refusal) -> bool {
-    text(row, "verdict") == "refused" && Refused::read(row).is(refusal)
+    is_verdict(row, "refused") && Refused::read(row).is(refusal)
 }
 
 /// Whether the length and the depth of an item are the expected ones.
@@ -136,7 +136,7 @@ fn is_span(row: &Value, span: Span) -> bool {
 /// Whether the reading of an item is the expected one.
 fn is_read(row: &Value, read: Result<Span, Refusal>) -> bool {
     match read {
-        Ok(span) => text(row, "verdict") == "item" && is_span(row, span),
+        Ok(span) => is_verdict(row, "item") && is_span(row, span),
         Err(refusal) => is_refused(row, refusal),
     }
 }

@@ -1,11 +1,12 @@
 //! Keys.
 
-use crate::expected::Refused;
 use crate::fields::{
-    Difference, Way, array, boolean, bytes, holds, integer, object, optional_bytes, text,
+    Difference, Way, array, boolean, bytes, holds, integer, is_verdict, object, optional_bytes,
+    text,
 };
+use crate::items::is_refused;
 use crate::setting::label;
-use cose_map::{Key, Material, Ops, Y};
+use cose_map::{Key, Material, Ops, Refusal, Y};
 use serde_json::Value;
 use std::alloc::Global;
 
@@ -76,17 +77,20 @@ pub fn is_key(alloc: Global, key: &Key<'_>, expected: &Value) -> bool {
     are_operations(key.ops, expected) && is_material(alloc, key.material, expected)
 }
 
+/// Whether the expected key is read, or refused as expected.
+fn is_read(alloc: Global, read: Result<Key<'_>, Refusal>, expected: &Value) -> bool {
+    match read {
+        Ok(key) => is_verdict(expected, "key") && is_key(alloc, &key, expected),
+        Err(refusal) => is_refused(expected, refusal),
+    }
+}
+
 /// Runs a key.
 fn run_key(alloc: Global, key: &[u8], place: u64, expected: &Value) -> Result<(), Difference> {
     if place.checked_add(key.len() as u64).is_none() {
         return Err(Difference::Setting);
     }
-    let is_expected = match (Key::read(key, place), text(expected, "verdict")) {
-        (Ok(key), "key") => is_key(alloc, &key, expected),
-        (Err(refusal), "refused") => Refused::read(expected).is(refusal),
-        _ => false,
-    };
-    holds(is_expected, Way::Slice)
+    holds(is_read(alloc, Key::read(key, place), expected), Way::Slice)
 }
 
 /// Runs a test.

@@ -1,11 +1,11 @@
 //! Keys of the type OKP, and their choice.
 
-use crate::choices::{is_placed, query_of};
-use crate::expected::Refused;
-use crate::fields::{Difference, Way, bytes, holds, integer, object, optional_bytes, text};
+use crate::choices::{is_placed, is_reason, query_of};
+use crate::fields::{Difference, Way, bytes, holds, integer, is_verdict, object, optional_bytes};
+use crate::items::is_refused;
 use crate::keys::{are_bytes, are_operations};
-use crate::setting::label;
-use cose_map::{KeySet, Label, OkpKey, Query};
+use crate::setting::{is_alg, label};
+use cose_map::{KeySet, OkpKey, Query, Refusal};
 use serde_json::Value;
 use std::alloc::Global;
 
@@ -32,17 +32,23 @@ fn is_key(alloc: Global, key: &OkpKey<'_>, expected: &Value) -> bool {
     is_public_key(alloc, key, expected)
 }
 
+/// Whether the expected key is read, or refused as expected.
+fn is_read(alloc: Global, read: Result<OkpKey<'_>, Refusal>, expected: &Value) -> bool {
+    match read {
+        Ok(key) => is_verdict(expected, "key") && is_key(alloc, &key, expected),
+        Err(refusal) => is_refused(expected, refusal),
+    }
+}
+
 /// Runs a key.
 fn run_key(alloc: Global, key: &[u8], place: u64, expected: &Value) -> Result<(), Difference> {
     if place.checked_add(key.len() as u64).is_none() {
         return Err(Difference::Setting);
     }
-    let is_expected = match (OkpKey::read(key, place), text(expected, "verdict")) {
-        (Ok(key), "key") => is_key(alloc, &key, expected),
-        (Err(refusal), "refused") => Refused::read(expected).is(refusal),
-        _ => false,
-    };
-    holds(is_expected, Way::Slice)
+    holds(
+        is_read(alloc, OkpKey::read(key, place), expected),
+        Way::Slice,
+    )
 }
 
 /// Runs a test of a key.
@@ -58,13 +64,13 @@ pub fn run_test(alloc: Global, group: &Value, test: &Value) -> Result<(), Differ
 
 /// Whether the expected key is found, and the algorithm, or none for the expected reason.
 fn is_found(alloc: Global, set: &KeySet<'_>, query: &Query<'_>, expected: &Value) -> bool {
-    match (set.find_further(query), text(expected, "verdict")) {
-        (Ok((key, alg)), "found") => {
-            let is_alg = label(expected, "alg") == Some(Label::Int(alg.number()));
-            is_alg && is_public_key(alloc, &key, expected)
+    match set.find_further(query) {
+        Ok((key, alg)) => {
+            is_verdict(expected, "found")
+                && is_alg(expected, alg.number())
+                && is_public_key(alloc, &key, expected)
         }
-        (Err(reason), "refused") => text(expected, "reason") == reason.name(),
-        _ => false,
+        Err(reason) => is_reason(reason, expected),
     }
 }
 

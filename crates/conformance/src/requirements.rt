@@ -2,7 +2,10 @@
 
 ghost use Rattle.std.specs.Prelude.{◌≤◌};
 
-use crate::fields::{Difference, Way, array, boolean, bytes, holds, integer, number, object, text};
+use crate::claims::{leeway, now};
+use crate::fields::{
+    Difference, Way, array, boolean, bytes, holds, integer, is_verdict, number, object, text,
+};
 use cose_cwt::{Claim, Claims, Requirement, Requirements, Unmet};
 use serde_json::Value;
 use std::alloc::Global;
@@ -32,8 +35,8 @@ fn seconds(group: &Value, name: &str) -> Option<u64> {
 /// The requirements of a group.
 fn requirements<'v>(group: &'v Value, present: &'v [Claim]) -> Requirements<'v> {
     Requirements {
-        now: i64::try_from(number(group, "now")).unwrap_or(0),
-        leeway: u32::try_from(integer(group, "leeway")).unwrap_or(0),
+        now: now(group),
+        leeway: leeway(group),
         present,
         iss: optional_text(group, "iss"),
         sub: optional_text(group, "sub"),
@@ -65,13 +68,13 @@ fn requirement(expected: &Value) -> Option<Requirement> {
 
 /// Whether this is the expected result.
 fn is_expected(seen: Result<(), Unmet>, expected: &Value) -> bool {
-    match (text(expected, "verdict"), seen) {
-        ("met", Ok(())) => true,
-        ("unmet", Err(unmet)) => {
-            requirement(expected) == Some(unmet.requirement)
+    match seen {
+        Ok(()) => is_verdict(expected, "met"),
+        Err(unmet) => {
+            is_verdict(expected, "unmet")
+                && requirement(expected) == Some(unmet.requirement)
                 && integer(expected, "place") == unmet.place
         }
-        _ => false,
     }
 }
 

@@ -2,8 +2,8 @@
 
 ghost use Rattle.std.specs.Prelude.{◌≤◌};
 
-use crate::expected::Refused;
-use crate::fields::{Difference, Way, bytes, holds, integer, object, optional_integer, text};
+use crate::fields::{Difference, Way, bytes, holds, integer, is_verdict, object, optional_integer};
+use crate::items::is_refused;
 use cose_map::{KeySet, KeyTable, Refusal};
 use serde_json::Value;
 use std::alloc::Global;
@@ -36,10 +36,9 @@ fn count_of(set: &[u8], table: Option<u64>) -> Option<Result<usize, Refusal>> {
 
 /// Whether this is the expected result.
 fn is_expected(count: Result<usize, Refusal>, expected: &Value) -> bool {
-    match (count, text(expected, "verdict")) {
-        (Ok(count), "set") => count as u64 == integer(expected, "usable"),
-        (Err(refusal), "refused") => Refused::read(expected).is(refusal),
-        _ => false,
+    match count {
+        Ok(count) => { is_verdict(expected, "set") && count as u64 == integer(expected, "usable") }
+        Err(refusal) => is_refused(expected, refusal),
     }
 }
 

@@ -47,6 +47,11 @@ pub fn label<'v>(object: &'v Value, name: &str) -> Option<Label<'v>> {
     object.get(name).and_then(label_of)
 }
 
+/// Whether the algorithm of a result has this number.
+pub fn is_alg(row: &Value, number: i128) -> bool {
+    label(row, "alg") == Some(Label::Int(number))
+}
+
 /// The labels of an array, as far as there is memory.
 pub fn labels<'v>(alloc: Global, object: &'v Value, name: &str) -> Vec<Label<'v>> {
     let mut labels = Vec::new(alloc);

@@ -5,7 +5,7 @@ ghost use Rattle.std.specs.Prelude.{◌≤◌, ◌<◌};
 use crate::claims::{Rules, are_claims};
 use crate::elsewhere::{self, Finding};
 use crate::expected::Refused;
-use crate::fields::{Difference, Way, bytes, holds, integer, limits, object, text};
+use crate::fields::{Difference, Way, bytes, holds, integer, is_verdict, limits, object};
 use crate::messages::CUTS;
 use crate::setting::Setting;
 use crate::streams::Signature;
@@ -146,14 +146,17 @@ fn stated<'s, const H: usize, const D: usize>(
 
 /// Whether this is the expected result of a token.
 fn is_expected(alloc: Global, seen: Result<(Claims<'_>, u64), CwtStop>, expected: &Value) -> bool {
-    match (text(expected, "verdict"), seen) {
-        ("admitted", Ok((claims, taken))) => {
-            let is_taken = taken == integer(expected, "taken");
-            is_taken && are_claims(alloc, &claims, object(expected, "claims"))
+    match seen {
+        Ok((claims, taken)) => {
+            is_verdict(expected, "admitted")
+                && taken == integer(expected, "taken")
+                && are_claims(alloc, &claims, object(expected, "claims"))
         }
-        ("refused message", Err(CwtStop::Message(refusal)))
-        | ("refused claims", Err(CwtStop::Claims(refusal))) => {
-            Refused::read(expected).is(refusal)
+        Err(CwtStop::Message(refusal)) => {
+            is_verdict(expected, "refused message") && Refused::read(expected).is(refusal)
+        }
+        Err(CwtStop::Claims(refusal)) => {
+            is_verdict(expected, "refused claims") && Refused::read(expected).is(refusal)
         }
         _ => false,
     }
@@ -243,7 +246,7 @@ fn run_at<const H: usize, const D: usize>(
         run_verify::<H, D>(alloc, case, token, cut, expected)?;
         run_elsewhere::<H, D>(alloc, case, token, cut, expected)?;
     }
-    if text(expected, "verdict") == "admitted" {
+    if is_verdict(expected, "admitted") {
         return run_prefixes::<H, D>(case, token, integer(expected, "taken") as usize);
     }
     Ok(())

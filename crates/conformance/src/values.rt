@@ -3,7 +3,8 @@
 ghost use Rattle.std.specs.Prelude.{◌≤◌, ◌+◌, ◌<◌, ◌^◌, length};
 
 use crate::fields::{
-    Difference, Way, array, boolean, bytes, has_bytes, holds, integer, number, object, text,
+    Difference, Way, array, boolean, bytes, has_bytes, holds, integer, is_verdict, number, object,
+    text,
 };
 use crate::items::{Walk, is_refused, nesting_of};
 use cose_head::{ItemRef, Items, Reason, Refusal, Span, read_item};
@@ -82,9 +83,10 @@ fn is_boolean(row: &Value, item: &ItemRef<'_>) -> bool {
 
 /// Whether an item is an array or a map of these items.
 fn is_container(alloc: Global, row: &Value, item: &ItemRef<'_>) -> bool {
-    let is_kind = match text(row, "verdict") {
-        "array" => item.is_array(),
-        _ => item.is_map(),
+    let is_kind = if is_verdict(row, "array") {
+        item.is_array()
+    } else {
+        item.is_map()
     };
     is_kind && are_children(alloc, array(row, "children"), item)
 }
@@ -105,7 +107,7 @@ fn is_typed(alloc: Global, row: &Value, item: &ItemRef<'_>) -> bool {
 
 /// Whether an item is what is expected.
 fn is_value(alloc: Global, row: &Value, item: &ItemRef<'_>) -> bool {
-    if text(row, "verdict") == "simple" {
+    if is_verdict(row, "simple") {
         return is_simple(row, item);
     }
     is_typed(alloc, row, item) && kinds(item) == 1
