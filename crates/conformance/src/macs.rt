@@ -1,6 +1,7 @@
 //! MACs of texts that are fed in pieces.
 
-ghost use Rattle.std.specs.Prelude.{◌<◌};
+ghost use Rattle.std.specs.Prelude.{◌<◌, IsTrue};
+ghost use Rattle.cose_head.specs.Algorithm.{is_mac_of};
 
 use crate::fields::{Difference, Way, bytes, holds, object};
 use crate::messages::CUTS;
@@ -32,10 +33,9 @@ pub fn ends_as(mut running: Running, text: &[u8], cut: usize, expected: &[u8]) -
 }
 
 /// Runs a text under a key.
-fn run_key(alg: Alg, key: &[u8], text: &[u8], mac: &[u8]) -> Result<(), Difference> {
-    if !alg.is_mac() {
-        return Err(Difference::Setting);
-    }
+fn run_key(alg: Alg, key: &[u8], text: &[u8], mac: &[u8]) -> Result<(), Difference>
+    requires { IsTrue (is_mac_of alg) }
+{
     for cut in CUTS {
         let running = Running::hmac(alg, key);
         holds(ends_as(running, text, cut, mac), Way::Feed)?;
