@@ -2,12 +2,10 @@
 
 ghost use Rattle.std.specs.Prelude.{None};
 
-use crate::cause::cause;
 use crate::files::NamedFiles;
-use crate::hints::{First, form_of, is_no_key, is_published, is_secret};
 use crate::host_file::{HostFiles, NamelessFile};
-use crate::key_hints::fault_of_keys;
 use crate::new_file::NewFiles;
+use cose_hints::{First, cause, fault_of_keys, form_of, is_no_key, is_published, is_secret};
 use std::alloc::Global;
 use std::fs::File;
 use std::io;
