@@ -11,8 +11,8 @@ from option_rows import TOP
 
 # the sources that name options, by their crates
 HINTS = {
-    "cose_hints": ("advice", "argument_advice", "cause", "hints", "key_hints", "streams", "text_advice"),
-    "cosecmd": ("input_form", "main", "noted_files"),
+    "cose_hints": ("advice", "argument_advice", "cause", "hints", "key_hints", "noted_files", "streams", "text_advice"),
+    "cosecmd": ("input_form", "main"),
 }
 # how a source names what: in a text, in a call, or as a value of its own with a dash in it
 NAMED = {

@@ -12,16 +12,13 @@ mod arguments;
 mod commands;
 mod fault;
 mod files;
-mod host_file;
 mod input;
 mod input_form;
 mod labels;
 mod limits;
 mod line;
 mod mistake;
-mod new_file;
 mod notation;
-mod noted_files;
 mod payload_file;
 mod print;
 mod reply;
@@ -33,12 +30,11 @@ mod write_sink;
 
 use allowed::wrong_part;
 use cose_hints::{
-    Ended, Form, Noted, advice_on_wrong_text, first_bytes, hold_closed, is_text, name_of,
-    other_form, reads_input, say_of_arguments,
+    Ended, Form, Noted, NotedFiles, NotedNewFiles, advice_on_wrong_text, first_bytes, hold_closed,
+    is_text, name_of, other_form, reads_input, say_of_arguments,
 };
 use cose_text::{InputForm, TextFault, TextInput};
 use input_form::form_named_in;
-use noted_files::{NotedFiles, NotedNewFiles};
 use run::run_with_files;
 use std::alloc::{AllocError, Global};
 use std::io::{ErrorKind, IsTerminal, Write};

@@ -14,10 +14,10 @@ use Rattle.cosecmd.specs.declared.fault.Fault.TheVariants as faults
 use Rattle.cosecmd.specs.declared.reply.Reply.{Reply}
 use Rattle.cosecmd.specs.declared.reply.Status.{Status}
 use Rattle.cosecmd.specs.declared.reply.Status.TheVariants as statuses
-use Rattle.cosecmd.specs.declared.new_file.Standing.{Standing}
-use Rattle.cosecmd.specs.declared.new_file.Standing.TheVariants as standings
+use Rattle.cose_files.specs.declared.new_file.Standing.{Standing}
+use Rattle.cose_files.specs.declared.new_file.Standing.TheVariants as standings
 use Rattle.cosecmd.specs.Faults.{WritesLine}
-use Rattle.cosecmd.specs.NewFile.{IsFirstFile, IsRemoved, IsSettled, Made, MadeFile, Stands, content_of, file_settled, settled, unnamed}
+use Rattle.cose_files.specs.NewFile.{IsFirstFile, IsRemoved, IsSettled, Made, MadeFile, Stands, content_of, file_settled, settled, unnamed}
 use Rattle.cosecmd.specs.PayloadTo.{IsOfNewFile, WritesFileFault, payload_in, payload_under, payload_where_read}
 use Rattle.cosecmd.specs.Printed.{Output, Prints, Says, code_of, setting_under}
 use Rattle.cosecmd.specs.Under.{Under}
