@@ -3,7 +3,7 @@
 #![tactic(auto)]
 
 mod commands;
-mod mistake;
+mod refused;
 
 pub use commands::line;
-pub use mistake::mistake;
+pub use refused::mistake;
