@@ -159,14 +159,14 @@ PLACES = {
             "algorithm for signatures",
             of_name,
             "README.md docs/COMMANDS.md docs/DECISIONS.md docs/USING.md docs/PYTHON.md "
-            "crates/cosecmd/src/commands.rt crates/cosecmd/src/main.rt crates/cose_mac/src/lib.rt crates/cose_msg/src/lib.rt "
+            "crates/cose_commands/src/commands.rt crates/cosecmd/src/main.rt crates/cose_mac/src/lib.rt crates/cose_msg/src/lib.rt "
             "crates/cose_cwt/src/lib.rt bindings/rust/src/lib.rs bindings/rust/src/sign_input.rs "
             "bindings/python/src/cose/_arguments.py bindings/python/src/cose/signatures.py bindings/go/cose.go",
         ),
         Places("algorithm for signatures", of_row, "rows/signed.json"),
         Places("algorithm for MACs", of_row, "rows/macs.json rows/made.json"),
         Places("algorithm for MACs", of_tuple, "ci/mac_messages.py"),
-        Places("algorithm for MACs", of_help, "crates/cosecmd/src/commands.rt docs/COMMANDS.md"),
+        Places("algorithm for MACs", of_help, "crates/cose_commands/src/commands.rt docs/COMMANDS.md"),
         Places("algorithm for MACs", of_sentence, "crates/cose_c/src/make.rt include/cose.h bindings/python/src/cose/making.py"),
         Places("algorithm for MACs", of_name, "bindings/rust/src/make.rs"),
     ],
@@ -193,7 +193,7 @@ PLACES = {
         Places(
             "claim",
             of_claim,
-            "crates/cose_cwt/src/requirements.rt crates/cose_cwt/specs/Requirements.antt crates/cosecmd/src/commands.rt "
+            "crates/cose_cwt/src/requirements.rt crates/cose_cwt/specs/Requirements.antt crates/cose_commands/src/commands.rt "
             "rows/requirements.json",
             "cnf",
         ),
@@ -221,7 +221,7 @@ PLACES = {
             "key-file keys-file payload-file payload-to input limits",
         ),
         Places("option of digest", of_option, "examples/verify_sign1"),
-        Places("option in hexadecimal", of_option, "crates/cosecmd/src/argument_advice.rt tests/test_standard_error.py"),
+        Places("option in hexadecimal", of_option, "crates/cose_hints/src/argument_advice.rt tests/test_standard_error.py"),
     ],
     "export": [
         Places("export", of_name, "include/cose.h bindings/rust/src/raw.rs"),

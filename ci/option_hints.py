@@ -9,8 +9,11 @@ import re
 import option_rows
 from option_rows import TOP
 
-SOURCES = TOP / "crates" / "cosecmd" / "src"
-HINTS = ("advice", "argument_advice", "cause", "hints", "key_hints", "main", "noted_files", "streams", "text_advice")
+# the sources that name options, by their crates
+HINTS = {
+    "cose_hints": ("advice", "argument_advice", "cause", "hints", "key_hints", "noted_files", "streams", "text_advice"),
+    "cosecmd": ("input_form", "main"),
+}
 # how a source names what: in a text, in a call, or as a value of its own with a dash in it
 NAMED = {
     "option": r'--([a-z][a-z-]*)|(?:argument_of|has_printed)\((?:"fault line ", )?"([^" ]+)"|option == "([^"]+)"|"([a-z]+-[a-z-]+)"',
@@ -27,9 +30,9 @@ def known():
     return {"option": {*rows, *of_keys, "help"}, "command": commands, "value": values}
 
 
-def code_of(path):
+def code_of(crate, name):
     """A source without its comments."""
-    return re.sub(r"^ *//.*$", "", path.read_text(), flags=re.M)
+    return re.sub(r"^ *//.*$", "", (TOP / "crates" / crate / "src" / f"{name}.rt").read_text(), flags=re.M)
 
 
 def unknown_names(code):
@@ -45,19 +48,19 @@ def unknown_names(code):
 
 
 def whole_lists():
-    """The lists that have to be complete: the source, how it has the list, and what has to be in it."""
+    """The lists that have to be complete: the crate and the source, how it has the list, and what has to be in it."""
     having = [it.name for it in option_rows.commands() if it.option("keys")]
-    yield "advice", r"fn takes_key_set(.*?)None => false", having
-    yield "argument_advice", r"const HEXADECIMAL: &\[&str\] =(.*?);", option_rows.names_with("HEX")
-    yield "streams", r"match words\.get\(1\) \{(.*?)=> false", [*(it.name for it in option_rows.commands()), "--for-message"]
+    yield "cose_hints", "advice", r"fn takes_key_set(.*?)None => false", having
+    yield "cose_hints", "argument_advice", r"const HEXADECIMAL: &\[&str\] =(.*?);", option_rows.names_with("HEX")
+    yield "cose_hints", "streams", r"match words\.get\(1\) \{(.*?)=> false", [*(it.name for it in option_rows.commands()), "--for-message"]
 
 
 def faults():
     """What the hints say otherwise than the rows."""
-    for name in HINTS:
-        unknown = unknown_names(code_of(SOURCES / f"{name}.rt"))
-        yield from (f"{name}.rt of cosecmd names the {kind} {it}, and there is none" for kind, it in unknown)
-    for name, pattern, wanted in whole_lists():
-        listed = set(re.findall(r'"([a-z0-9-]+)"', re.search(pattern, code_of(SOURCES / f"{name}.rt"), re.S)[1]))
+    for crate, name in ((crate, name) for crate, names in HINTS.items() for name in names):
+        unknown = unknown_names(code_of(crate, name))
+        yield from (f"{name}.rt of {crate} names the {kind} {it}, and there is none" for kind, it in unknown)
+    for crate, name, pattern, wanted in whole_lists():
+        listed = set(re.findall(r'"([a-z0-9-]+)"', re.search(pattern, code_of(crate, name), re.S)[1]))
         if listed != set(wanted):
-            yield f"{name}.rt of cosecmd lists {', '.join(sorted(listed))}, and the rows have {', '.join(sorted(wanted))}"
+            yield f"{name}.rt of {crate} lists {', '.join(sorted(listed))}, and the rows have {', '.join(sorted(wanted))}"

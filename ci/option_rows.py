@@ -1,4 +1,4 @@
-"""Reads the rows of the program: its commands and their options, as crates/cosecmd/src/commands.rt has them, with the ranges of
+"""Reads the rows of the program: its commands and their options, as crates/cose_commands/src/commands.rt has them, with the ranges of
 their numbers, which commands/building.rt has."""
 import json
 import pathlib
@@ -7,7 +7,7 @@ import sys
 from typing import Dict, List, NamedTuple, Tuple
 
 TOP = pathlib.Path(__file__).resolve().parent.parent
-ROWS = TOP / "crates" / "cosecmd" / "src" / "commands.rt"
+ROWS = TOP / "crates" / "cose_commands" / "src" / "commands.rt"
 RANGES = ROWS.with_suffix("") / "building.rt"
 # how the range of a kind of numbers is said to clap
 RANGE = r"Number::(\w+) => arg\.value_parser\(value_parser!\((\w+)\)(?:\.range\((\d+)\.\.(=?)(\w*)\))?\)"

@@ -33,6 +33,8 @@ INLINED = {
 SHARED = {
     "cose_c::claims::admitted",
     "cose_c::fed_keys::FedKeysKeyMeaning::begin_mac",
+    "cose_c::required::required_by",
+    "cose_c::stated::labels_of",
     "cose_c::table::keys::RefTableKeysKeyMeaning::begin_mac",
     "cose_map::key::Key::read",
     "cose_map::key_set::KeySet::find",
@@ -54,13 +56,19 @@ SHARED = {
     "core::array::DefaultsElements::at",
 }
 # what isn't inlined there: the search for the key isn't on the stack while both buckets are read, nor is what takes the payload
-# while the headers are, nor the verifier while the claims are
+# while the headers are, nor the verifier while the claims are, nor a bucket that is asked for while a message is taken, nor what
+# is for elements in order while others are read
 APART = {
     "cose_c::permitted::PermittedKeys::fitting",
     "cose_c::table::cose_edge_table_verify",
     "cose_c::table::under::cose_edge_table_authenticate",
+    "cose_map::bucket::both::are_rising",
+    "cose_map::bucket::both::with_element",
+    "cose_map::map::labels::Labels::clear",
     "cose_msg::reader::Reader::payload",
     "cose_msg::reader::choice::key_for",
+    "cose_msg::verifier::Verifier::protected",
+    "cose_msg::verifier::Verifier::unprotected",
 }
 # what is long, since there are no vectors, or is called from many places
 OUT_OF_LINE = {

@@ -6,14 +6,12 @@ pub mod CommandLine
 pub mod Faults
 pub mod Fields
 pub mod Headers
-pub mod HostFile
 pub mod Input
 pub mod InputForm
 pub mod Inspection
 pub mod KeysListed
 pub mod Limits
 pub mod MakeStops
-pub mod NewFile
 pub mod Options
 pub mod Part
 pub mod Payload

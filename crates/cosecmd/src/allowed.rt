@@ -31,7 +31,7 @@ fn known(number: i128) -> Option<i128>
 }
 
 /// The number of an algorithm that a text writes in decimal.
-pub fn number_of(word: &str) -> Option<i128>
+fn number_of(word: &str) -> Option<i128>
     ensures { result ≡ spec.algorithm_written word.now }
 {
     match word.parse::<i64>() {
@@ -70,6 +70,18 @@ fn numbers_listed(alloc: Global, list: &str) -> Result<Option<Vec<i128>>, AllocE
 {
     let words = parts_of(alloc, list)?;
     numbers_of(alloc, words.as_slice())
+}
+
+/// Which part of a list is the first that is no number of an algorithm, the first being 1.
+pub fn wrong_part(list: &str) -> Option<usize> {
+    let mut number: usize = 0;
+    for part in list.split(',') {
+        number = number.saturating_add(1);
+        if number_of(part).is_none() {
+            return Some(number);
+        }
+    }
+    None
 }
 
 /// The numbers of the algorithms that `--algs` lists, where it is there.

@@ -1,9 +1,9 @@
 //! What the program answers to a request, over any reader and writer.
 
 ghost use Rattle.std.specs.Prelude.{◌≡◌, ◌≤◌, ℕ, true, false, List, Option, Some, None, IfOk};
+ghost use Rattle.cose_files.specs.NewFile.{content_of};
 ghost use Rattle.cosecmd.specs.Arguments.{asked_for, is_sequence, makes, payload_for};
 ghost use Rattle.cosecmd.specs.MakeStops.{StopsMaking};
-ghost use Rattle.cosecmd.specs.NewFile.{content_of};
 ghost use Rattle.cosecmd.specs.PayloadTo.{Settles, kept_under, new_file_for, payload_under};
 ghost use Rattle.cosecmd.specs.Printed.{EndsWith, Fails, Output, Says};
 ghost use Rattle.cosecmd.specs.Sequence.{FailsInSequence};
@@ -22,11 +22,10 @@ mod unmet;
 mod verdict;
 
 use crate::fault::Fault;
-use crate::files::NamedFiles;
-use crate::new_file::NewFiles;
 use crate::print::print_reply;
 use crate::reply::Reply;
 use crate::request::Request;
+use cose_files::{NamedFiles, NewFiles};
 use cwt::cwt_reply;
 use keys::listing_reply;
 use make::answer_make;

@@ -13,17 +13,17 @@ ghost use Rattle.cosecmd.specs.Printed.{Output};
 ghost use Rattle.cosecmd.specs.Arguments.{is_sequence, makes, payload_for};
 
 use crate::allowed::allowed_of;
-use crate::commands::line;
 use crate::fault::Fault;
-use crate::files::{NamedFiles, key_bytes, key_set_bytes};
+use crate::files::{key_bytes, key_set_bytes};
 use crate::labels::labels_of;
 use crate::limits::Limits;
-use crate::mistake::mistake;
 use crate::reply::{Reply, Status};
 use crate::request::{Checks, Cwt, Details, Keys, Make, Payload, Printing, Question, Request};
 use crate::requirements::required_of;
 use clap::ArgMatches;
 use clap::error::ErrorKind;
+use cose_commands::{line, mistake};
+use cose_files::NamedFiles;
 use cose_msg::{Alg, Wanted};
 use std::alloc::Global;
 

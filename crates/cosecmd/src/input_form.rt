@@ -20,6 +20,21 @@ pub fn form_named_by(word: &str) -> InputForm
     }
 }
 
+/// The form of the input that arguments name that were accepted.
+pub fn form_named_in(words: &[&str]) -> InputForm {
+    let mut follows = false;
+    for &word in words {
+        if follows {
+            return form_named_by(word);
+        }
+        if let Some(name) = word.strip_prefix("--input=") {
+            return form_named_by(name);
+        }
+        follows = word == "--input";
+    }
+    InputForm::Cbor
+}
+
 /// The form that the options of the command name.
 pub fn input_form_of(matches: &ArgMatches) -> InputForm
     ensures { result ≡ form_in (subcommand_rows_of matches.now) }

@@ -6,51 +6,39 @@
 ghost use Rattle.std.specs.Prelude.{◌≡◌};
 ghost use Rattle.std.specs.Process.{exit_status};
 
-mod advice;
 mod allowed;
 mod answer;
-mod argument_advice;
 mod arguments;
-mod cause;
-mod commands;
 mod fault;
 mod files;
-mod hints;
-mod host_file;
 mod input;
 mod input_form;
-mod key_hints;
 mod labels;
 mod limits;
 mod line;
-mod mistake;
-mod new_file;
 mod notation;
-mod noted_files;
 mod payload_file;
 mod print;
 mod reply;
 mod request;
 mod requirements;
 mod run;
-mod streams;
-mod text_advice;
 mod vouch;
 mod write_sink;
 
-use advice::Ended;
-use argument_advice::say_of_arguments;
+use allowed::wrong_part;
+use cose_hints::{
+    Ended, Form, Noted, NotedFiles, NotedNewFiles, advice_on_wrong_text, first_bytes, hold_closed,
+    is_text, name_of, other_form, reads_input, say_of_arguments,
+};
 use cose_text::{InputForm, TextFault, TextInput};
-use hints::Form;
-use noted_files::{NotedFiles, NotedNewFiles};
+use input_form::form_named_in;
 use run::run_with_files;
 use std::alloc::{AllocError, Global};
 use std::io::{ErrorKind, IsTerminal, Write};
 use std::process::ExitCode;
 use std::rt::Env;
 use std::{env, io};
-use streams::{Noted, hold_closed, reads_input};
-use text_advice::{advice_on_wrong_text, first_bytes, form_named_in, is_text, name_of, other_form};
 
 /// How many bytes are looked at that an input stands for.
 const DECODED: usize = 512;
@@ -82,6 +70,18 @@ fn complain<W: Write>(output: &mut W, text: &str) -> ExitCode
     ExitCode::from(2)
 }
 
+/// Says on standard error which part of the list of algorithms is no number of one, where the list was refused. Its text isn't
+/// repeated: it may be a key that lacks its option.
+fn say_of_algorithms(rt: &HostRuntime, ended: &Ended) {
+    if let Some(list) = ended.refused_algorithms() {
+        if let Some(part) = wrong_part(list) {
+            let _ = eprintln!(rt;
+                "cosecmd: --algs takes numbers of algorithms, joined by commas; its part {part} is none"
+            );
+        }
+    }
+}
+
 /// Says on standard error what the text on standard output doesn't say after this run: of another command than `make` the form
 /// of the text that the input begins as, where no message is accepted, and advice; of `make`, whose output was to be a message,
 /// what it printed in its place too.
@@ -94,11 +94,7 @@ fn say_more(rt: &HostRuntime, ended: &Ended, form: Option<Form>, complaint: Opti
         let (name, advice) = (form.name(), form.advice());
         let _ = eprintln!(rt; "cosecmd: standard input begins as {name} does; {advice}");
     }
-    if let Some(part) = ended.wrong_algorithm() {
-        let _ = eprintln!(rt;
-            "cosecmd: --algs takes numbers of algorithms, joined by commas; its part {part} is none"
-        );
-    }
+    say_of_algorithms(rt, ended);
     say_of_arguments(rt, ended);
     if let Some(advice) = ended.advice() {
         let _ = eprintln!(rt; "cosecmd: {advice}");

@@ -7,10 +7,9 @@ ghost use Rattle.cosecmd.specs.PayloadTo.{EndsWithFile, KeepsPayload, ReadsNothi
 
 use crate::answer::answer;
 use crate::arguments::{Parsed, parse, request_of};
-use crate::files::NamedFiles;
 use crate::input_form::input_form_of;
-use crate::new_file::NewFiles;
 use crate::print::{print, print_fault};
+use cose_files::{NamedFiles, NewFiles};
 use cose_text::TextInput;
 use std::alloc::Global;
 use std::io::{Read, Write};

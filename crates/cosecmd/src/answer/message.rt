@@ -18,7 +18,6 @@ ghost use Rattle.cosecmd.specs.Under.{under_of};
 use crate::answer::headers::{Buckets, headed_reply};
 use crate::answer::verdict::{CHUNK, reply_of, trailing_at, whole_verdict};
 use crate::fault::Fault;
-use crate::files::NamedFiles;
 use crate::limits::{
     LARGE_HEADER, LARGE_KEYS, LARGE_NESTING, Limits, SMALL_HEADER, SMALL_KEYS, SMALL_NESTING,
 };
@@ -26,6 +25,7 @@ use crate::payload_file::PayloadFile;
 use crate::reply::{Reply, Status};
 use crate::request::{Checks, Payload, Question};
 use crate::vouch::word_for;
+use cose_files::NamedFiles;
 use cose_msg::laws::{
     deciding_goes_last, payload_stays, settled_stays, spelled_is_read, unrefused_is_message,
 };

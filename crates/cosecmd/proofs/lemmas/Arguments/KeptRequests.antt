@@ -1,7 +1,7 @@
 -- A request that keeps a payload in a new file, and what becomes of the file.
 use Rattle.std.proofs.Common.{◌≡◌, ℕ, true, false, List, Option, Some, None, Bor, sym, ap, subst, ◌∙◌}
 use Rattle.clap.specs.Walk.{Text}
-use Rattle.cosecmd.specs.NewFile.{Made}
+use Rattle.cose_files.specs.NewFile.{Made}
 use Rattle.cosecmd.specs.Arguments.{asked_for, payload_for}
 use Rattle.cosecmd.specs.PayloadTo.{KeepsUnder, Settles, SettlesNamed, kept_under, new_file_for}
 use Rattle.cosecmd.specs.Printed.{verified_under}

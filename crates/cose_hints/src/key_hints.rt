@@ -2,8 +2,8 @@
 //! None of it repeats an argument.
 
 use crate::hints::{First, form_of, is_no_key};
+use cose_head::Reason;
 use cose_map::{Key, KeySet};
-use cose_msg::Reason;
 
 /// The greatest number of bytes of a key set, and of a key.
 const MOST: usize = 65_535;

@@ -1,7 +1,7 @@
 //! Files that are new: the payload of an authentic message is kept in one.
 
 ghost use Rattle.std.specs.Prelude.{◌≡◌, ℕ, Bool, true, List, [], Option, Some, None, IfErr, IfOk};
-ghost use Rattle.cosecmd.specs.NewFile.{IsFirstFile, IsSettled, Made, looked, settled};
+ghost use Rattle.cose_files.specs.NewFile.{IsFirstFile, IsSettled, Made, looked, settled};
 
 use std::alloc::Global;
 use std::io;
@@ -32,7 +32,7 @@ pub trait NewFiles {
     /// The file while it is written.
     type New: Write + Drop;
 
-    ghost use Rattle.cosecmd.specs.declared.new_file.Standing.TheVariants.{Gone, Kept, Stuck};
+    ghost use Rattle.cose_files.specs.declared.new_file.Standing.TheVariants.{Gone, Kept, Stuck};
 
     ghost made: { Self → Made };
 

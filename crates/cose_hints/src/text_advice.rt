@@ -1,28 +1,12 @@
 //! What standard error says of an input that is a text. None of it changes what standard output says, or how the run ends.
 
 use crate::hints::{Form, form_of};
-use crate::input_form::form_named_by;
 use cose_text::{InputForm, TextInput};
 use std::io::Read;
 
 /// What is said of bytes that are no text, where one is expected.
 const NO_TEXT: &str =
     "standard input begins as no text does; where it is CBOR, leave out --input, or write `--input auto`";
-
-/// The form of the input that arguments name that were accepted.
-pub fn form_named_in(words: &[&str]) -> InputForm {
-    let mut follows = false;
-    for &word in words {
-        if follows {
-            return form_named_by(word);
-        }
-        if let Some(name) = word.strip_prefix("--input=") {
-            return form_named_by(name);
-        }
-        follows = word == "--input";
-    }
-    InputForm::Cbor
-}
 
 /// The forms that an input is expected in.
 pub fn name_of(form: InputForm) -> &'static str {

@@ -16,7 +16,7 @@ const SET: &str =
     "a key set has at most 65,535 bytes and 16 usable keys (256 with `--limits large`); `cosecmd keys` lists them";
 
 /// Says what isn't hexadecimal in the argument of this option.
-fn say_not_hexadecimal(rt: &HostRuntime, option: &str, argument: &str) {
+fn say_not_hexadecimal(rt: &impl Eprint, option: &str, argument: &str) {
     if option == "keys" || option == "key" {
         if let Some(form @ (Form::Pem | Form::Json | Form::JsonWebToken)) = form_of(
             argument.as_bytes(),
@@ -46,7 +46,7 @@ fn say_not_hexadecimal(rt: &HostRuntime, option: &str, argument: &str) {
 }
 
 /// Says why the argument of this option has no key set, or no key. Returns whether there is something to say.
-fn say_no_key(rt: &HostRuntime, option: &str, argument: &str) -> bool {
+fn say_no_key(rt: &impl Eprint, option: &str, argument: &str) -> bool {
     let first = first_written(argument);
     if is_no_key(first.known()) || form_of(first.known()).is_some() {
         let _ = eprintln!(rt;
@@ -65,7 +65,7 @@ fn say_no_key(rt: &HostRuntime, option: &str, argument: &str) -> bool {
 }
 
 /// Says of the arguments in hexadecimal of a run that has ended which of them isn't.
-fn say_of_digits(rt: &HostRuntime, ended: &Ended) {
+fn say_of_digits(rt: &impl Eprint, ended: &Ended) {
     for &option in HEXADECIMAL {
         if ended.has_printed("fault line ", option) {
             if let Some(argument) = ended.argument_of(option) {
@@ -87,7 +87,7 @@ fn option_of_keys(ended: &Ended) -> Option<&'static str> {
 }
 
 /// Says of the argument of this option why it has no key set, or no key.
-fn say_of_keys(rt: &HostRuntime, ended: &Ended, option: &str) {
+fn say_of_keys(rt: &impl Eprint, ended: &Ended, option: &str) {
     if let Some(argument) = ended.argument_of(option) {
         if say_no_key(rt, option, argument) {
             return;
@@ -99,7 +99,7 @@ fn say_of_keys(rt: &HostRuntime, ended: &Ended, option: &str) {
 }
 
 /// Says of the arguments of a run that has ended what its fault doesn't say.
-pub fn say_of_arguments(rt: &HostRuntime, ended: &Ended) {
+pub fn say_of_arguments(rt: &impl Eprint, ended: &Ended) {
     say_of_digits(rt, ended);
     if let Some(option) = option_of_keys(ended) {
         say_of_keys(rt, ended, option);

@@ -1,8 +1,6 @@
 //! What standard error advises after a run, by its arguments and by the beginnings of what it read and printed. None of it changes
 //! what standard output says, or how the run ends.
 
-use crate::allowed::number_of;
-
 /// A run that has ended.
 #[derive(Clone, Copy)]
 pub struct Ended<'a> {
@@ -57,18 +55,6 @@ fn contains(bytes: &[u8], wanted: &[u8]) -> bool {
         }
     }
     false
-}
-
-/// Which part of a list is the first that is no number of an algorithm, the first being 1.
-fn wrong_part(list: &str) -> Option<usize> {
-    let mut number: usize = 0;
-    for part in list.split(',') {
-        number = number.saturating_add(1);
-        if number_of(part).is_none() {
-            return Some(number);
-        }
-    }
-    None
 }
 
 impl<'a> Ended<'a> {
@@ -219,12 +205,11 @@ impl<'a> Ended<'a> {
         }
     }
 
-    /// Which part of the list of algorithms is no number of one, where the list was refused. Its text isn't repeated: it may be a
-    /// key that lacks its option.
-    pub fn wrong_algorithm(&self) -> Option<usize> {
+    /// The list of algorithms, where it was refused. It may be a key that lacks its option.
+    pub fn refused_algorithms(&self) -> Option<&'a str> {
         if !self.printed.starts_with("fault line algs".as_bytes()) {
             return None;
         }
-        wrong_part(self.argument_of("algs")?)
+        self.argument_of("algs")
     }
 }

@@ -1,7 +1,7 @@
 -- The new files of a run: what was found of the name, and the file that was made.
 use Rattle.std.specs.Prelude.{◌≡◌, ℕ, ◌⊎◌, Bool, List, Option, Some, None, option_and_then, option_map}
-use Rattle.cosecmd.specs.declared.new_file.Standing.{Standing}
-use Rattle.cosecmd.specs.declared.new_file.Standing.TheVariants as standings
+use Rattle.cose_files.specs.declared.new_file.Standing.{Standing}
+use Rattle.cose_files.specs.declared.new_file.Standing.TheVariants as standings
 
 -- The name that a file is to have, under which of its names it is, and what it holds where it is kept, as far as that is known.
 pub record MadeFile : Type 0 where

@@ -3,30 +3,30 @@
 ghost use Rattle.std.specs.Prelude.{None};
 
 use crate::cause::cause;
-use crate::files::NamedFiles;
 use crate::hints::{First, form_of, is_no_key, is_published, is_secret};
-use crate::host_file::{HostFiles, NamelessFile};
 use crate::key_hints::fault_of_keys;
-use crate::new_file::NewFiles;
+use cose_files::{HostFiles, NamedFiles, NamelessFile, NewFiles, open_with_length};
 use std::alloc::Global;
 use std::fs::File;
 use std::io;
 use std::io::{Error, ErrorKind, Read, Write};
 use std::os::unix::fs::PermissionsExt;
+use std::random::RandomSource;
+use std::rt::Files;
 
 /// The bits of a mode that let others than the owner read or write.
 const OTHERS: u32 = 0o066;
 
 /// The files of the process, where the file of keys is that of this option.
 #[derive(Drop)]
-pub struct NotedFiles<'r> {
-    rt: &'r HostRuntime,
+pub struct NotedFiles<'r, R> {
+    rt: &'r R,
     option: &'static str,
 }
 
-impl<'r> NotedFiles<'r> {
+impl<'r, R> NotedFiles<'r, R> {
     /// The files for the command of these arguments.
-    pub fn new(rt: &'r HostRuntime, words: &[&str]) -> NotedFiles<'r> {
+    pub fn new(rt: &'r R, words: &[&str]) -> NotedFiles<'r, R> {
         let option = if words.get(1) == Some(&"make") {
             "key-file"
         } else {
@@ -38,8 +38,8 @@ impl<'r> NotedFiles<'r> {
 
 /// An open file, of whose first bytes something is said once they are read.
 #[derive(Drop)]
-pub struct NotedFile<'r> {
-    rt: &'r HostRuntime,
+pub struct NotedFile<'r, R> {
+    rt: &'r R,
     option: &'static str,
     file: File,
     first: First,
@@ -60,18 +60,18 @@ fn is_open_to_others(file: &File) -> bool {
 }
 
 /// Says why the file of an option can't be used.
-fn say_cause(rt: &HostRuntime, option: &str, error: &Error) {
+fn say_cause(rt: &impl Eprint, option: &str, error: &Error) {
     let cause = cause(error.kind());
     let _ = eprintln!(rt; "cosecmd: the file of --{option} can't be used: {cause}");
 }
 
-impl<'r> NamedFiles for NotedFiles<'r> {
-    type File = NotedFile<'r>;
+impl<'r, R: Files<File = File> + Eprint> NamedFiles for NotedFiles<'r, R> {
+    type File = NotedFile<'r, R>;
 
     ghost content = { λ _ _. None };
 
     fn open(&self, name: &str) -> io::Result<Self::File> {
-        let file = match self.rt.open(name) {
+        let file = match File::open(self.rt, name) {
             Ok(file) => file,
             Err(error) => {
                 say_cause(self.rt, self.option, &error);
@@ -90,7 +90,7 @@ impl<'r> NamedFiles for NotedFiles<'r> {
     }
 
     fn open_with_length(&self, name: &str, stated: Option<u64>) -> io::Result<(Self::File, u64)> {
-        let (file, length) = match self.rt.open_with_length(name, stated) {
+        let (file, length) = match open_with_length(self.rt, name, stated) {
             Ok(opened) => opened,
             Err(error) => {
                 say_cause(self.rt, "payload-file", &error);
@@ -112,34 +112,34 @@ impl<'r> NamedFiles for NotedFiles<'r> {
 
 /// The new files of the process, of which standard error says why they can't be made, written or kept.
 #[derive(Drop)]
-pub struct NotedNewFiles<'r> {
-    rt: &'r HostRuntime,
-    files: HostFiles,
+pub struct NotedNewFiles<'r, R> {
+    rt: &'r R,
+    files: HostFiles<'r, R>,
 }
 
-impl<'r> NotedNewFiles<'r> {
+impl<'r, R> NotedNewFiles<'r, R> {
     /// Before any file is made.
-    pub fn new(rt: &'r HostRuntime) -> NotedNewFiles<'r> {
+    pub fn new(rt: &'r R) -> NotedNewFiles<'r, R> {
         NotedNewFiles {
             rt,
-            files: HostFiles::new(*rt),
+            files: HostFiles::new(rt),
         }
     }
 }
 
 /// A new file while it is written.
 #[derive(Drop)]
-pub struct NotedNew<'r> {
-    rt: &'r HostRuntime,
+pub struct NotedNew<'r, R> {
+    rt: &'r R,
     file: NamelessFile,
 }
 
-impl<'r> NewFiles for NotedNewFiles<'r> {
-    type New = NotedNew<'r>;
+impl<'r, R: Files<File = File> + RandomSource + Eprint> NewFiles for NotedNewFiles<'r, R> {
+    type New = NotedNew<'r, R>;
 
     ghost use Rattle.std.specs.Prelude.{false};
 
-    ghost made = { λ noted. ⟦<HostFiles as NewFiles>⟧.made noted.files };
+    ghost made = { λ noted. ⟦<HostFiles<'r, R> as NewFiles>⟧.made noted.files };
 
     ghost is_known = { false };
 
@@ -157,7 +157,7 @@ impl<'r> NewFiles for NotedNewFiles<'r> {
         looked
     }
 
-    fn create(&mut self, alloc: Global, name: &str) -> io::Result<NotedNew<'r>> {
+    fn create(&mut self, alloc: Global, name: &str) -> io::Result<NotedNew<'r, R>> {
         match self.files.create(alloc, name) {
             Ok(file) => Ok(NotedNew { rt: self.rt, file }),
             Err(error) => {
@@ -167,7 +167,7 @@ impl<'r> NewFiles for NotedNewFiles<'r> {
         }
     }
 
-    fn keep(&mut self, file: &mut NotedNew<'r>) -> io::Result<()> {
+    fn keep(&mut self, file: &mut NotedNew<'r, R>) -> io::Result<()> {
         let kept = self.files.keep(&mut file.file);
         if let Err(error) = &kept {
             say_cause(self.rt, "payload-to", error);
@@ -187,7 +187,7 @@ impl<'r> NewFiles for NotedNewFiles<'r> {
     }
 }
 
-impl Write for NotedNew<'_> {
+impl<R: Eprint> Write for NotedNew<'_, R> {
     fn write(&mut self, bytes: &[u8]) -> io::Result<usize> {
         let written = self.file.write(bytes);
         if let Err(error) = &written {
@@ -203,7 +203,7 @@ impl Write for NotedNew<'_> {
     }
 }
 
-impl NotedFile<'_> {
+impl<R: Eprint> NotedFile<'_, R> {
     /// Says why all the bytes are no key, or no key set.
     fn say_fault(&self) {
         let is_set = self.option == "keys-file";
@@ -248,7 +248,7 @@ impl NotedFile<'_> {
     }
 }
 
-impl Read for NotedFile<'_> {
+impl<R: Eprint> Read for NotedFile<'_, R> {
     fn read(&mut self, into: &mut [u8]) -> io::Result<usize> {
         let count = match self.file.read(into) {
             Ok(count) => count,

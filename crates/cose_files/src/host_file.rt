@@ -10,6 +10,7 @@ use std::fs::{File, Metadata, OpenOptions};
 use std::io::{BufWriter, Error, ErrorKind, Seek, SeekFrom, Write};
 use std::os::unix::fs::{MetadataExt, OpenOptionsExt};
 use std::random::RandomSource;
+use std::rt::Files;
 use std::{fs, io};
 
 /// The most bytes that are held before they are written.
@@ -17,8 +18,8 @@ const ROOM: usize = 16_384;
 
 /// The new files of the process: what was found of the name, and the file.
 #[derive(Drop)]
-pub struct HostFiles {
-    rt: HostRuntime,
+pub struct HostFiles<'r, R> {
+    rt: &'r R,
     /// Whether something had the name, once that was looked at.
     is_taken: Option<bool>,
     file: Option<HostFile>,
@@ -27,7 +28,6 @@ pub struct HostFiles {
 /// A new file of the process.
 #[derive(Drop)]
 pub struct HostFile {
-    rt: HostRuntime,
     /// The file that has a name, once it is made.
     named: Option<File>,
     name: String,
@@ -42,7 +42,7 @@ pub struct NamelessFile {
 }
 
 /// What has this name, if anything has it.
-fn found(rt: &HostRuntime, name: &str) -> io::Result<Option<Metadata>> {
+fn found(rt: &impl Files, name: &str) -> io::Result<Option<Metadata>> {
     match fs::symlink_metadata(rt, name) {
         Ok(metadata) => Ok(Some(metadata)),
         Err(error) if error.kind() == ErrorKind::NotFound => Ok(None),
@@ -51,7 +51,7 @@ fn found(rt: &HostRuntime, name: &str) -> io::Result<Option<Metadata>> {
 }
 
 /// Whether this name is that of the file with this metadata.
-fn is_of(rt: &HostRuntime, name: &str, file: &Metadata) -> io::Result<bool> {
+fn is_of(rt: &impl Files, name: &str, file: &Metadata) -> io::Result<bool> {
     match found(rt, name)? {
         Some(other) => Ok(other.dev() == file.dev() && other.ino() == file.ino()),
         None => Ok(false),
@@ -59,7 +59,7 @@ fn is_of(rt: &HostRuntime, name: &str, file: &Metadata) -> io::Result<bool> {
 }
 
 /// Removes this name, where it is that of the file with this metadata.
-fn remove(rt: &HostRuntime, name: &str, file: &Metadata) -> io::Result<()> {
+fn remove(rt: &impl Files, name: &str, file: &Metadata) -> io::Result<()> {
     if !is_of(rt, name, file)? {
         return Ok(());
     }
@@ -80,7 +80,7 @@ fn new_file_options() -> OpenOptions
 }
 
 /// A new file that has no name: it had this one until it was removed.
-fn nameless(rt: &HostRuntime, name: &str) -> io::Result<File> {
+fn nameless(rt: &impl Files<File = File>, name: &str) -> io::Result<File> {
     let file = new_file_options().open(rt, name)?;
     remove(rt, name, &file.metadata()?)?;
     Ok(file)
@@ -95,7 +95,7 @@ fn part_name(alloc: Global, name: &str, digits: &str) -> Result<String, AllocErr
 }
 
 /// A name in the same folder that no file is likely to have. It doesn't begin with this name, which may be as long as any.
-fn temporary_name(rt: &HostRuntime, alloc: Global, name: &str) -> io::Result<String> {
+fn temporary_name(rt: &impl RandomSource, alloc: Global, name: &str) -> io::Result<String> {
     let mut random = [0u8; 8];
     rt.fill_bytes(&mut random)?;
     let digits = hex::encode(alloc, random.as_slice())?;
@@ -111,12 +111,11 @@ fn copy(mut from: &File, mut to: &File) -> io::Result<()> {
 
 impl HostFile {
     /// The file that is to have this name.
-    fn new(rt: HostRuntime, name: String, temporary: String) -> HostFile
+    fn new(name: String, temporary: String) -> HostFile
         ensures name { result.name ≡ name }
         ensures standing { result.standing ≡ Standing.Unnamed }
     {
         HostFile {
-            rt,
             named: None,
             name,
             temporary,
@@ -133,80 +132,80 @@ impl HostFile {
     }
 
     /// Makes the file that has a name, at first the temporary one, and copies into it what was written.
-    fn name_temporarily(&mut self, written: &File) -> io::Result<()>
+    fn name_temporarily(&mut self, rt: &impl Files<File = File>, written: &File) -> io::Result<()>
         ensures name { self.new.name ≡ self.old.name }
     {
-        let named = new_file_options().open(&self.rt, self.temporary.as_str())?;
+        let named = new_file_options().open(rt, self.temporary.as_str())?;
         self.named = Some(named);
         self.standing = Standing::Temporary;
         copy(written, self.named()?)
     }
 
     /// Removes the temporary name.
-    fn remove_temporary(&self) -> io::Result<()> {
+    fn remove_temporary(&self, rt: &impl Files) -> io::Result<()> {
         let file = self.named()?.metadata()?;
-        remove(&self.rt, self.temporary.as_str(), &file)
+        remove(rt, self.temporary.as_str(), &file)
     }
 
     /// That this name is the file's: another process may have given it to another file.
-    fn expect(&self, name: &str) -> io::Result<()> {
-        match is_of(&self.rt, name, &self.named()?.metadata()?)? {
+    fn expect(&self, rt: &impl Files, name: &str) -> io::Result<()> {
+        match is_of(rt, name, &self.named()?.metadata()?)? {
             true => Ok(()),
             false => Err(Error::from(ErrorKind::InvalidData)),
         }
     }
 
     /// Gives the file its own name, and takes the temporary one from it.
-    fn take_name(&mut self) -> io::Result<()>
+    fn take_name(&mut self, rt: &impl Files) -> io::Result<()>
         ensures name { self.new.name ≡ self.old.name }
     {
-        self.expect(self.temporary.as_str())?;
+        self.expect(rt, self.temporary.as_str())?;
         // A link never takes the place of a file that has the name by now, as renaming would.
-        fs::hard_link(&self.rt, self.temporary.as_str(), self.name.as_str())?;
+        fs::hard_link(rt, self.temporary.as_str(), self.name.as_str())?;
         self.standing = Standing::Both;
-        self.expect(self.name.as_str())?;
-        self.remove_temporary()
+        self.expect(rt, self.name.as_str())?;
+        self.remove_temporary(rt)
     }
 
     /// Removes both names, also where the temporary one was another file's by the time that it was linked.
-    fn remove_both(&self, file: &Metadata) -> io::Result<()> {
+    fn remove_both(&self, rt: &impl Files, file: &Metadata) -> io::Result<()> {
         let (name, temporary) = (self.name.as_str(), self.temporary.as_str());
-        if let Some(linked) = found(&self.rt, temporary)? {
-            remove(&self.rt, name, &linked)?;
+        if let Some(linked) = found(rt, temporary)? {
+            remove(rt, name, &linked)?;
         }
-        remove(&self.rt, name, file)?;
-        remove(&self.rt, temporary, file)
+        remove(rt, name, file)?;
+        remove(rt, temporary, file)
     }
 
     /// Removes the names that the file has.
-    fn remove_names(&self) -> io::Result<()> {
+    fn remove_names(&self, rt: &impl Files) -> io::Result<()> {
         match self.standing {
             Standing::Unnamed | Standing::Gone => Ok(()),
-            Standing::Temporary => self.remove_temporary(),
-            Standing::Both => self.remove_both(&self.named()?.metadata()?),
-            Standing::Kept => remove(&self.rt, self.name.as_str(), &self.named()?.metadata()?),
+            Standing::Temporary => self.remove_temporary(rt),
+            Standing::Both => self.remove_both(rt, &self.named()?.metadata()?),
+            Standing::Kept => remove(rt, self.name.as_str(), &self.named()?.metadata()?),
             Standing::Stuck => Err(Error::from(ErrorKind::Other)),
         }
     }
 
     /// Gives what was written its own name.
-    fn keep(&mut self, written: &File) -> io::Result<()>
+    fn keep(&mut self, rt: &impl Files<File = File>, written: &File) -> io::Result<()>
         ensures name { self.new.name ≡ self.old.name }
         ensures kept { IfOk result (λ _. self.new.standing ≡ Standing.Kept) }
     {
-        self.name_temporarily(written)?;
-        self.take_name()?;
+        self.name_temporarily(rt, written)?;
+        self.take_name(rt)?;
         self.standing = Standing::Kept;
         Ok(())
     }
 
     /// Removes the file.
-    fn discard(&mut self) -> io::Result<()>
+    fn discard(&mut self, rt: &impl Files) -> io::Result<()>
         ensures name { self.new.name ≡ self.old.name }
         ensures gone { IfOk result (λ _. self.new.standing ≡ Standing.Gone) }
         ensures stuck { IfErr result (λ _. self.new.standing ≡ Standing.Stuck) }
     {
-        match self.remove_names() {
+        match self.remove_names(rt) {
             Ok(()) => {
                 self.standing = Standing::Gone;
                 Ok(())
@@ -229,9 +228,9 @@ impl Write for NamelessFile {
     }
 }
 
-impl HostFiles {
+impl<'r, R> HostFiles<'r, R> {
     /// Before any file is made.
-    pub fn new(rt: HostRuntime) -> HostFiles {
+    pub fn new(rt: &'r R) -> HostFiles<'r, R> {
         HostFiles {
             rt,
             is_taken: None,
@@ -240,11 +239,11 @@ impl HostFiles {
     }
 }
 
-impl NewFiles for HostFiles {
+impl<R: Files<File = File> + RandomSource> NewFiles for HostFiles<'_, R> {
     type New = NamelessFile;
 
     ghost use Rattle.std.specs.Prelude.{false, option_map};
-    ghost use Rattle.cosecmd.specs.HostFile.{made_file};
+    ghost use Rattle.cose_files.specs.HostFile.{made_file};
 
     ghost made = { λ files.
         record { is_taken = files.is_taken; file = option_map made_file files.file } };
@@ -252,7 +251,7 @@ impl NewFiles for HostFiles {
     ghost is_known = { false };
 
     fn look(&mut self, name: &str) -> io::Result<bool> {
-        let is_taken = found(&self.rt, name)?.is_some();
+        let is_taken = found(self.rt, name)?.is_some();
         self.is_taken = Some(is_taken);
         Ok(is_taken)
     }
@@ -261,25 +260,25 @@ impl NewFiles for HostFiles {
         if name.is_empty() || self.file.is_some() {
             return Err(Error::from(ErrorKind::InvalidInput));
         }
-        let temporary = temporary_name(&self.rt, alloc, name)?;
+        let temporary = temporary_name(self.rt, alloc, name)?;
         let name = format!(in alloc; "{name}")?;
-        let file = nameless(&self.rt, temporary.as_str())?;
+        let file = nameless(self.rt, temporary.as_str())?;
         let writer = BufWriter::with_capacity(alloc, ROOM, file)?;
-        self.file = Some(HostFile::new(self.rt, name, temporary));
+        self.file = Some(HostFile::new(name, temporary));
         Ok(NamelessFile { writer })
     }
 
     fn keep(&mut self, file: &mut NamelessFile) -> io::Result<()> {
         file.writer.flush()?;
         match &mut self.file {
-            Some(named) => named.keep(file.writer.get_ref()),
+            Some(named) => named.keep(self.rt, file.writer.get_ref()),
             None => Err(Error::from(ErrorKind::NotFound)),
         }
     }
 
     fn discard(&mut self) -> io::Result<()> {
         match &mut self.file {
-            Some(named) => named.discard(),
+            Some(named) => named.discard(self.rt),
             None => Ok(()),
         }
     }

@@ -1,10 +1,10 @@
 -- The record of the new file of the process, where it isn't kept.
 use Rattle.std.proofs.Common.{◌≡◌, Bool, Option, Some, None, Result, Ok, Err, option_map, refl}
 use Rattle.std.specs.Prelude.{IfErr}
-use Rattle.cosecmd.specs.HostFile.{made_file}
-use Rattle.cosecmd.specs.NewFile.{IsSettled}
-use Rattle.cosecmd.specs.declared.host_file.HostFile.{HostFile}
-use Rattle.cosecmd.specs.declared.new_file.Standing.TheVariants as standings
+use Rattle.cose_files.specs.HostFile.{made_file}
+use Rattle.cose_files.specs.NewFile.{IsSettled}
+use Rattle.cose_files.specs.declared.host_file.HostFile.{HostFile}
+use Rattle.cose_files.specs.declared.new_file.Standing.TheVariants as standings
 
 pub where_err : {A E : Type 0} (result : Result A E) (P : Type 0) → P → IfErr result (λ _. P)
 where_err (Ok x) P p = tt

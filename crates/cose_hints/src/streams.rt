@@ -7,11 +7,12 @@ use crate::cause::cause;
 use crate::hints::{First, Form, form_of_first};
 use std::fs::File;
 use std::io::{Read, Write};
+use std::rt::Files;
 use std::{fs, io};
 
 /// Opens a folder in the place of a standard stream that is closed, so that no file that is opened later takes its number. To read
 /// from it or to write to it fails. The folder is open as long as what is returned is there.
-pub fn hold_closed(rt: &HostRuntime, stream: &str) -> Option<File> {
+pub fn hold_closed<F: Files>(rt: &F, stream: &str) -> Option<F::File> {
     match fs::metadata(rt, stream) {
         Ok(_) => None,
         Err(_) => File::open(rt, "/").ok(),

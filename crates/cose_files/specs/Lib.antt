@@ -1,0 +1,2 @@
+pub mod HostFile
+pub mod NewFile
