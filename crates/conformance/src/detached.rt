@@ -213,10 +213,10 @@ fn under<'k, const H: usize, const D: usize, K: Keys<'k>>(
     Verifier::detached(setting.context(keys), length)
 }
 
-/// Runs a message through `verify_detached` under these keys, in pieces of at most `cut` bytes.
-fn run_verify<'k, const H: usize, const D: usize, K: Keys<'k> + Drop>(
+/// Runs a message through `verify_detached` under a key set, in pieces of at most `cut` bytes.
+fn run_verify<'k, const H: usize, const D: usize>(
     setting: &'k Setting<'_>,
-    keys: K,
+    set: KeySet<'k>,
     case: &Case<'_>,
     cut: usize,
 ) -> Result<(), Difference>
@@ -225,7 +225,7 @@ fn run_verify<'k, const H: usize, const D: usize, K: Keys<'k> + Drop>(
     requires nesting { D ≤ 32 }
     requires some { 0 < cut }
 {
-    let mut verifier = under::<H, D, K>(setting, keys, case.length);
+    let mut verifier = under::<H, D, KeySet<'k>>(setting, set, case.length);
     holds(is_verified(&mut verifier, case, cut), Way::Verify)
 }
 
@@ -288,7 +288,7 @@ fn run_cut<'k, const H: usize, const D: usize>(
     requires nesting { D ≤ 32 }
     requires some { 0 < cut }
 {
-    run_verify::<H, D, KeySet<'k>>(setting, set, case, cut)?;
+    run_verify::<H, D>(setting, set, case, cut)?;
     run_feed::<H, D>(setting, set, case, cut)?;
     run_elsewhere::<H, D>(setting, set, case, cut)
 }
@@ -328,7 +328,11 @@ fn run_at<'k, const H: usize, const D: usize>(
         return Err(Difference::Setting);
     };
     run_under_set::<H, D>(setting, setting.set()?, case)?;
-    run_verify::<H, D, &KeyTable<'_, 16>>(setting, &table, case, 64)
+    let mut shared = Verifier::<H, D, &KeyTable<'_, 16>>::detached(
+        setting.context(&table),
+        case.length,
+    );
+    holds(is_verified(&mut shared, case, 64), Way::Verify)
 }
 
 /// Runs a message at the limits of its group.

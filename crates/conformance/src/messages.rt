@@ -223,10 +223,10 @@ fn under<'k, const H: usize, const D: usize, K: Keys<'k>>(
     Verifier::new(setting.context(keys))
 }
 
-/// Runs a message through `verify` under these keys, in pieces of at most `cut` bytes.
-fn run_verify<'k, const H: usize, const D: usize, K: Keys<'k> + Drop>(
+/// Runs a message through `verify` under a key set, in pieces of at most `cut` bytes.
+fn run_verify<'k, const H: usize, const D: usize>(
     setting: &'k Setting<'_>,
-    keys: K,
+    set: KeySet<'k>,
     case: &Case<'_>,
     cut: usize,
 ) -> Result<(), Difference>
@@ -235,14 +235,14 @@ fn run_verify<'k, const H: usize, const D: usize, K: Keys<'k> + Drop>(
     requires nesting { D ≤ 32 }
     requires some { 0 < cut }
 {
-    let mut verifier = under::<H, D, K>(setting, keys);
+    let mut verifier = under::<H, D, KeySet<'k>>(setting, set);
     holds(is_verified(&mut verifier, case, cut), Way::Verify)
 }
 
-/// Feeds a message under these keys, in pieces of at most `cut` bytes.
-fn run_feed<'k, const H: usize, const D: usize, K: Keys<'k> + Drop>(
+/// Feeds a message under a key set, in pieces of at most `cut` bytes.
+fn run_feed<'k, const H: usize, const D: usize>(
     setting: &'k Setting<'_>,
-    keys: K,
+    set: KeySet<'k>,
     case: &Case<'_>,
     cut: usize,
 ) -> Result<(), Difference>
@@ -251,7 +251,7 @@ fn run_feed<'k, const H: usize, const D: usize, K: Keys<'k> + Drop>(
     requires nesting { D ≤ 32 }
     requires some { 0 < cut }
 {
-    let mut verifier = under::<H, D, K>(setting, keys);
+    let mut verifier = under::<H, D, KeySet<'k>>(setting, set);
     holds(is_fed(&mut verifier, case, cut), Way::Feed)
 }
 
@@ -328,8 +328,8 @@ fn run_cut<'k, const H: usize, const D: usize>(
     requires nesting { D ≤ 32 }
     requires some { 0 < cut }
 {
-    run_verify::<H, D, KeySet<'k>>(setting, set, case, cut)?;
-    run_feed::<H, D, KeySet<'k>>(setting, set, case, cut)?;
+    run_verify::<H, D>(setting, set, case, cut)?;
+    run_feed::<H, D>(setting, set, case, cut)?;
     run_elsewhere::<H, D>(setting, set, case, cut)
 }
 
@@ -362,8 +362,10 @@ fn run_under_table<'k, const H: usize, const D: usize>(
     let Ok(table) = KeyTable::<16>::read(setting.keys()) else {
         return Err(Difference::Setting);
     };
-    run_feed::<H, D, &KeyTable<'_, 16>>(setting, &table, case, 64)?;
-    run_verify::<H, D, KeyTable<'_, 16>>(setting, table, case, 64)
+    let mut shared = Verifier::<H, D, &KeyTable<'_, 16>>::new(setting.context(&table));
+    holds(is_fed(&mut shared, case, 64), Way::Feed)?;
+    let mut owner = Verifier::<H, D, KeyTable<'_, 16>>::new(setting.context(table));
+    holds(is_verified(&mut owner, case, 64), Way::Verify)
 }
 
 /// Runs a message under a table of prepared keys: by a reference to it, and by itself.
@@ -379,8 +381,10 @@ fn run_prepared<'k, const H: usize, const D: usize>(
         return Err(Difference::Setting);
     };
     let prepared = PreparedTable::new(table);
-    run_feed::<H, D, &PreparedTable<'_, 16>>(setting, &prepared, case, 64)?;
-    run_verify::<H, D, PreparedTable<'_, 16>>(setting, prepared, case, 64)
+    let mut shared = Verifier::<H, D, &PreparedTable<'_, 16>>::new(setting.context(&prepared));
+    holds(is_fed(&mut shared, case, 64), Way::Feed)?;
+    let mut owner = Verifier::<H, D, PreparedTable<'_, 16>>::new(setting.context(prepared));
+    holds(is_verified(&mut owner, case, 64), Way::Verify)
 }
 
 /// Runs a message at a header limit and a nesting, under a key set, a reference to a table of keys, a table of keys and a table
