@@ -28,7 +28,7 @@ use cose_msg::{
 };
 
 /// The most bytes of a message or of a detached payload that are copied at once.
-const CHUNK: usize = 1_024;
+const CHUNK: usize = 128;
 
 /// The status of a message of this kind that nothing refuses, whose signature, if it has one, is left to the caller.
 fn status_of(kind: Kind) -> u8
