@@ -5,6 +5,8 @@ use Rattle.std.specs.Str.{bytes_eq}
 use Rattle.clap.specs.Simple.{subcommand_rows_of}
 use Rattle.clap.specs.Walk.{Text}
 use Rattle.clap.specs.declared.parser.matches.ArgMatches.{ArgMatches}
+use Rattle.cose_files.specs.NewFile.{Made, Stands, content_of}
+use Rattle.cose_files.specs.declared.new_file.Standing.TheVariants as standings
 use Rattle.cose_map.specs.Key.Value.{KeyValue}
 use Rattle.cose_map.specs.Map.Read.{Read}
 use Rattle.cose_msg.specs.Message.{Decides, Setting, message, verifying}
@@ -12,7 +14,6 @@ use Rattle.cose_msg.specs.Sink.{AppendsFront}
 use Rattle.cosecmd.specs.CommandLine.{IsFoundIn, ask_for_help}
 use Rattle.cosecmd.specs.Fields.{checks_in}
 use Rattle.cosecmd.specs.InputForm.{input_bytes}
-use Rattle.cose_files.specs.NewFile.{Made, Stands, content_of}
 use Rattle.cosecmd.specs.Options.{Options, text_in}
 use Rattle.cosecmd.specs.Payload.{detached_in}
 use Rattle.cosecmd.specs.Printed.{setting_under, verified_for}
@@ -21,7 +22,6 @@ use Rattle.cosecmd.specs.Vouch.{vouching}
 use Rattle.cosecmd.specs.Arguments.{asked_for, is_sequence, makes, payload_for}
 use Rattle.cosecmd.specs.declared.fault.Fault.{Fault}
 use Rattle.cosecmd.specs.declared.fault.Fault.TheVariants as faults
-use Rattle.cose_files.specs.declared.new_file.Standing.TheVariants as standings
 use Rattle.cosecmd.specs.declared.request.Checks.{Checks}
 use Rattle.cosecmd.specs.declared.request.Payload.{Payload}
 use Rattle.cosecmd.specs.declared.request.Request.{Request}

@@ -1,9 +1,9 @@
 //! What the program answers to a request, over any reader and writer.
 
 ghost use Rattle.std.specs.Prelude.{◌≡◌, ◌≤◌, ℕ, true, false, List, Option, Some, None, IfOk};
+ghost use Rattle.cose_files.specs.NewFile.{content_of};
 ghost use Rattle.cosecmd.specs.Arguments.{asked_for, is_sequence, makes, payload_for};
 ghost use Rattle.cosecmd.specs.MakeStops.{StopsMaking};
-ghost use Rattle.cose_files.specs.NewFile.{content_of};
 ghost use Rattle.cosecmd.specs.PayloadTo.{Settles, kept_under, new_file_for, payload_under};
 ghost use Rattle.cosecmd.specs.Printed.{EndsWith, Fails, Output, Says};
 ghost use Rattle.cosecmd.specs.Sequence.{FailsInSequence};

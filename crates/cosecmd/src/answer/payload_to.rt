@@ -2,16 +2,16 @@
 
 ghost use Rattle.std.specs.Prelude.{◌≡◌, ◌≢◌, ◌≤◌, ◌⊎◌, ◌||◌, ℕ, true, List, [], Some, None, IfErr, IfOk, IsErr, length};
 ghost use Rattle.std.specs.Io.KnownBytes.{Appends};
+ghost use Rattle.cose_files.specs.NewFile.{IsFirstFile, IsRemoved, IsSettled, MadeFile, Stands, content_of, settled};
+ghost use Rattle.cose_files.specs.declared.new_file.Standing.TheVariants.{Gone, Kept, Stuck};
 ghost use Rattle.cose_map.specs.KeyTable.{keys as usable};
 ghost use Rattle.cose_msg.specs.Verifier.{setting_of};
 ghost use Rattle.cosecmd.specs.Faults.{fails_by_file, fails_by_input};
 ghost use Rattle.cosecmd.specs.Limits.{AreSizesUnder};
-ghost use Rattle.cose_files.specs.NewFile.{IsFirstFile, IsRemoved, IsSettled, MadeFile, Stands, content_of, settled};
 ghost use Rattle.cosecmd.specs.PayloadTo.{IsOfNewFile, PutsPayload, WritesFileFault, payload_in, payload_under};
 ghost use Rattle.cosecmd.specs.Printed.{Output, Says, verified_under};
 ghost use Rattle.cosecmd.specs.Replies.{FailsFor, IsVerdictOfInput, PrintsFor, RepliesTo, vouching_by};
 ghost use Rattle.cosecmd.specs.Under.{under_of};
-ghost use Rattle.cose_files.specs.declared.new_file.Standing.TheVariants.{Gone, Kept, Stuck};
 
 use crate::answer::verdict::{CHUNK, reply_of, whole_verdict};
 use crate::fault::Fault;

@@ -2,6 +2,9 @@
 use Rattle.std.proofs.Common.{◌≡◌, ◌≢◌, ℕ, true, false, List, [], ◌++◌, Option, Some, None, Result, Ok, Err, ◌⊎◌, inl, inr, refl, sym, ap, subst, ◌∙◌}
 use Rattle.std.specs.Prelude.{IfErr, IfOk, IsErr, codes, option_map, string_bytes}
 use Rattle.std.specs.Io.KnownBytes.{Appends, Consumes, IsAtEnd}
+use Rattle.cose_files.specs.declared.new_file.Standing.{Standing}
+use Rattle.cose_files.specs.declared.new_file.Standing.TheVariants as standings
+use Rattle.cose_files.specs.NewFile.{IsFirstFile, IsRemoved, IsSettled, Made, MadeFile, Stands, content_of, file_settled, settled, unnamed}
 use Rattle.cose_map.specs.Key.Value.{KeyValue}
 use Rattle.cose_map.specs.Map.Read.{Read}
 use Rattle.cose_msg.specs.Laws.{MessageStays}
@@ -14,10 +17,7 @@ use Rattle.cosecmd.specs.declared.fault.Fault.TheVariants as faults
 use Rattle.cosecmd.specs.declared.reply.Reply.{Reply}
 use Rattle.cosecmd.specs.declared.reply.Status.{Status}
 use Rattle.cosecmd.specs.declared.reply.Status.TheVariants as statuses
-use Rattle.cose_files.specs.declared.new_file.Standing.{Standing}
-use Rattle.cose_files.specs.declared.new_file.Standing.TheVariants as standings
 use Rattle.cosecmd.specs.Faults.{WritesLine}
-use Rattle.cose_files.specs.NewFile.{IsFirstFile, IsRemoved, IsSettled, Made, MadeFile, Stands, content_of, file_settled, settled, unnamed}
 use Rattle.cosecmd.specs.PayloadTo.{IsOfNewFile, WritesFileFault, payload_in, payload_under, payload_where_read}
 use Rattle.cosecmd.specs.Printed.{Output, Prints, Says, code_of, setting_under}
 use Rattle.cosecmd.specs.Under.{Under}
