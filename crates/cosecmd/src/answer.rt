@@ -20,6 +20,7 @@ mod sequence;
 mod show;
 mod unmet;
 mod verdict;
+mod words;
 
 use crate::fault::Fault;
 use crate::print::print_reply;

@@ -93,6 +93,12 @@ fn status_of(error: &clap::Error, words: &[&str]) -> Status
     Status::Fault
 }
 
+/// What is said of a line that clap refuses, or the help or version that it asks for.
+fn text_of_error(alloc: Global, error: &clap::Error) -> Result<String, Fault> {
+    let text = format!(in alloc; "{error}")?;
+    Ok(mistake(alloc, error.kind(), text.as_str())?)
+}
+
 /// The text of a line that is refused, which repeats none of its arguments, or the help or version that it asks for. None of them
 /// can be taken for an answer.
 fn refused_line(alloc: Global, error: clap::Error, words: &[&str]) -> Result<Reply, Fault>
@@ -105,7 +111,7 @@ fn refused_line(alloc: Global, error: clap::Error, words: &[&str]) -> Result<Rep
         return Err(Fault::Memory);
     }
     let status = status_of(&error, words);
-    let text = mistake(alloc, error.kind(), format!(in alloc; "{error}")?.as_str())?;
+    let text = text_of_error(alloc, &error)?;
     if is_like_answer(text.as_str()) {
         return Err(Fault::Line("command"));
     }

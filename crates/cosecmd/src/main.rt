@@ -35,7 +35,7 @@ use cose_text::{InputForm, TextFault, TextInput};
 use input_form::form_named_in;
 use run::run_with_files;
 use std::alloc::{AllocError, Global};
-use std::io::{ErrorKind, IsTerminal, Write};
+use std::io::{ErrorKind, IsTerminal, Read, Write};
 use std::process::ExitCode;
 use std::rt::Env;
 use std::{env, io};
@@ -126,11 +126,24 @@ fn say_of_text(rt: &HostRuntime, form: InputForm, fault: TextFault, first: &[u8]
     }
 }
 
-/// Runs the command of these arguments over the standard streams, and says on standard error that it waits for a terminal.
-fn run_command(rt: &HostRuntime, words: &[&str], is_closed: bool) -> u8 {
+/// The form of the text that the input begins as, where it isn't the one that the arguments name.
+fn form_begun<R: Read>(form: InputForm, noted: &Noted<R>) -> Option<Form> {
+    if is_text(form) {
+        return other_form(noted.known());
+    }
+    noted.form()
+}
+
+/// Says on standard error that the run waits for a terminal.
+fn say_of_terminal(rt: &HostRuntime, words: &[&str]) {
     if reads_input(words) && rt.stdin().is_terminal() {
         let _ = rt.eprintln("cosecmd: reading from this terminal, up to its end of file");
     }
+}
+
+/// Runs the command of these arguments over the standard streams.
+fn run_command(rt: &HostRuntime, words: &[&str], is_closed: bool) -> u8 {
+    say_of_terminal(rt, words);
     let files = NotedFiles::new(rt, words);
     let mut new_files = NotedNewFiles::new(rt);
     let mut noted = Noted::new(rt.stdin());
@@ -156,30 +169,33 @@ fn run_command(rt: &HostRuntime, words: &[&str], is_closed: bool) -> u8 {
         input: first_bytes(form, noted.known(), &mut decoded),
         printed: output.known(),
     };
-    let begins = if is_text(form) {
-        other_form(noted.known())
-    } else {
-        noted.form()
-    };
-    say_more(rt, &ended, begins, output.complaint());
+    say_more(rt, &ended, form_begun(form, &noted), output.complaint());
     say_why_unread(rt, &ended, noted.cause(), is_closed);
     status
+}
+
+/// What is wrong where the arguments can't be had.
+fn line_of(error: &io::Error) -> &'static str {
+    match error.kind() {
+        ErrorKind::InvalidData => "error: invalid UTF-8 was detected in one or more arguments\n",
+        _ => "fault memory\n",
+    }
+}
+
+/// Runs the command of these arguments.
+fn run_owned(rt: &HostRuntime, owned: &[String], is_closed: bool) -> ExitCode {
+    match borrowed_words(rt.alloc(), owned) {
+        Ok(words) => ExitCode::from(run_command(rt, words.as_slice(), is_closed)),
+        Err(_) => complain(&mut rt.stdout(), "fault memory\n"),
+    }
 }
 
 fn main(rt: HostRuntime) -> ExitCode {
     let input = hold_closed(&rt, "/dev/fd/0");
     let _output = hold_closed(&rt, "/dev/fd/1");
     let _error = hold_closed(&rt, "/dev/fd/2");
-    let owned = match owned_words(&rt) {
-        Ok(owned) => owned,
-        Err(error) if matches!(error.kind(), ErrorKind::InvalidData) => {
-            let text = "error: invalid UTF-8 was detected in one or more arguments\n";
-            return complain(&mut rt.stdout(), text);
-        }
-        Err(_) => return complain(&mut rt.stdout(), "fault memory\n"),
-    };
-    match borrowed_words(rt.alloc(), owned.as_slice()) {
-        Ok(words) => ExitCode::from(run_command(&rt, words.as_slice(), input.is_some())),
-        Err(_) => complain(&mut rt.stdout(), "fault memory\n"),
+    match owned_words(&rt) {
+        Ok(owned) => run_owned(&rt, owned.as_slice(), input.is_some()),
+        Err(error) => complain(&mut rt.stdout(), line_of(&error)),
     }
 }

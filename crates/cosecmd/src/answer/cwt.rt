@@ -1,10 +1,11 @@
 //! The lines of the command `cwt`: the claims of a token, where they are admitted.
 
 ghost use Rattle.std.specs.Prelude.{◌≡◌, ◌≢◌, ◌≤◌, ◌↔◌, ◌++◌, ◌||◌, ℕ, true, false, List, [], Some, None, Ok, Err, IfErr, IfOk, codes, is_some, length, map, not, option_map, string_bytes};
+ghost use Rattle.std.specs.Fmt.{decimal};
 ghost use Rattle.std.specs.List.{concat};
 ghost use Rattle.cose_head.specs.declared.refusal.Refusal.{Refusal};
 ghost use Rattle.cose_head.specs.ItemRef.{placed};
-ghost use Rattle.cose_map.specs.Key.View.{contents, key_value};
+ghost use Rattle.cose_map.specs.Key.View.{contents, key_value, material_value, y_value};
 ghost use Rattle.cose_map.specs.Label.View.{label_value};
 ghost use Rattle.cose_map.specs.Map.View.{pairs_left};
 ghost use Rattle.cose_msg.specs.Kept.{HasTaken, bytes_taken, is_inspecting};
@@ -16,7 +17,7 @@ ghost use Rattle.cose_cwt.specs.Claims.Audience.{text_value, texts_left};
 ghost use Rattle.cose_cwt.specs.Claims.View.{claims_value};
 ghost use Rattle.cose_cwt.specs.Confirmation.View.{cnf_value};
 ghost use Rattle.cose_cwt.specs.Requirements.View.{requirements_value};
-ghost use Rattle.cosecmd.specs.Admitted.{admission_seen, bytes_line, claims_lines, confirmation_lines, date_line, input_token, is_registered, key_line, or_trailing, other_lines, others_shown, program_policy, refused_line, required_then, stopped_in, text_line, where_present};
+ghost use Rattle.cosecmd.specs.Admitted.{admission_seen, bytes_line, claims_lines, confirmation_lines, date_line, input_token, is_registered, key_line, material_line, or_trailing, other_lines, others_shown, program_policy, refused_line, required_then, stopped_in, text_line, where_present, y_word};
 ghost use Rattle.cosecmd.specs.Arguments.{admitted_for};
 ghost use Rattle.cosecmd.specs.Faults.{FailsForKeys, fails_by_input};
 ghost use Rattle.cosecmd.specs.Limits.{AreSizesUnder, room_of};
@@ -29,6 +30,7 @@ ghost use Rattle.cosecmd.specs.Vouch.{vouching};
 
 use crate::answer::unmet::unmet_reply;
 use crate::answer::verdict::{CHUNK, program_context, trailing_at};
+use crate::answer::words::{push_hex, push_named_hex};
 use crate::fault::Fault;
 use crate::limits::{
     LARGE_CLAIMS, LARGE_HEADER, LARGE_KEYS, LARGE_NESTING, Limits, SMALL_CLAIMS, SMALL_HEADER,
@@ -81,9 +83,8 @@ fn push_bytes(
     let Some(bytes) = bytes else {
         return Ok(());
     };
-    let bytes = hex::encode(alloc, bytes)?;
-    let line = format!(in alloc; "{name} {bytes}\n")?;
-    lines.push_str(line.as_str())?;
+    push_named_hex(alloc, lines, name, bytes)?;
+    lines.push_str("\n")?;
     Ok(())
 }
 
@@ -117,9 +118,7 @@ fn push_text(
     let Some(text) = text else {
         return Ok(());
     };
-    let bytes = hex::encode(alloc, text.as_bytes())?;
-    let line = format!(in alloc; "{name} {bytes}")?;
-    lines.push_str(line.as_str())?;
+    push_named_hex(alloc, lines, name, text.as_bytes())?;
     push_quotes(alloc, lines, text, readable)?;
     lines.push_str("\n")?;
     Ok(())
@@ -189,28 +188,63 @@ fn push_date(
     Ok(())
 }
 
-/// Appends the line of a public key, where there is one: its curve, x, and y or the sign of y.
+/// Appends the words before x of a public key: the number of its curve is among them.
+fn push_curve(alloc: Global, lines: &mut String, curve: u8) -> Result<(), Fault>
+    ensures words { IfOk result (λ _. string_bytes lines.new
+        ≡ string_bytes lines.old ++ codes "cnf key " ++ decimal curve ++ codes " ") }
+    ensures fault { IfErr result (λ fault. fault ≡ Fault.Memory) }
+{
+    let words = format!(in alloc; "cnf key {curve} ")?;
+    lines.push_str(words.as_str())?;
+    Ok(())
+}
+
+/// Appends y of a point, or its sign.
+fn push_y(alloc: Global, lines: &mut String, y: Y) -> Result<(), Fault>
+    ensures word { IfOk result (λ _. string_bytes lines.new
+        ≡ string_bytes lines.old ++ y_word (y_value y.entry)) }
+    ensures fault { IfErr result (λ fault. fault ≡ Fault.Memory) }
+{
+    match y {
+        Y::Bytes(y) => push_hex(alloc, lines, y),
+        Y::Sign(true) => {
+            lines.push_str("true")?;
+            Ok(())
+        }
+        Y::Sign(false) => {
+            lines.push_str("false")?;
+            Ok(())
+        }
+    }
+}
+
+/// Appends the line of a public key that is a point: its curve, x, and y or the sign of y.
+fn push_point(alloc: Global, lines: &mut String, material: Material) -> Result<(), Fault>
+    ensures line { IfOk result (λ _. string_bytes lines.new
+        ≡ string_bytes lines.old ++ material_line (material_value material.entry)) }
+    ensures fault { IfErr result (λ fault. fault ≡ Fault.Memory) }
+{
+    let Material::Ec { crv, x, y } = material else {
+        return Ok(());
+    };
+    push_curve(alloc, lines, crv)?;
+    push_hex(alloc, lines, x)?;
+    lines.push_str(" ")?;
+    push_y(alloc, lines, y)?;
+    lines.push_str("\n")?;
+    Ok(())
+}
+
+/// Appends the line of a public key, where there is one.
 fn push_key(alloc: Global, lines: &mut String, key: Option<Key>) -> Result<(), Fault>
     ensures lines { IfOk result (λ _. string_bytes lines.new
         ≡ string_bytes lines.old ++ where_present key_line (option_map key_value key.entry)) }
     ensures fault { IfErr result (λ fault. fault ≡ Fault.Memory) }
 {
-    let Some(key) = key else {
-        return Ok(());
-    };
-    let Material::Ec { crv, x, y } = key.material else {
-        return Ok(());
-    };
-    let x = hex::encode(alloc, x)?;
-    let line = match y {
-        Y::Bytes(y) => {
-            let y = hex::encode(alloc, y)?;
-            format!(in alloc; "cnf key {crv} {x} {y}\n")?
-        }
-        Y::Sign(y) => format!(in alloc; "cnf key {crv} {x} {y}\n")?,
-    };
-    lines.push_str(line.as_str())?;
-    Ok(())
+    match key {
+        Some(key) => push_point(alloc, lines, key.material),
+        None => Ok(()),
+    }
 }
 
 /// Appends the lines of a confirmation, where there is one: those of the key and of its identifier.

@@ -18,6 +18,7 @@ ghost use Rattle.cosecmd.specs.Replies.{RepliesTo};
 
 mod asked;
 
+use crate::answer::words::push_named_hex;
 use crate::fault::Fault;
 use crate::limits::{SMALL_KEYS, SMALL_NESTING};
 use crate::reply::{Reply, Status};
@@ -58,10 +59,7 @@ fn push_kid(alloc: Global, line: &mut String, kid: Option<&[u8]>) -> Result<(), 
     let Some(kid) = kid else {
         return Ok(());
     };
-    let kid = hex::encode(alloc, kid)?;
-    let words = format!(in alloc; " kid {kid}")?;
-    line.push_str(words.as_str())?;
-    Ok(())
+    push_named_hex(alloc, line, " kid", kid)
 }
 
 /// Appends an algorithm: its number, or its text in quotes.

@@ -1,6 +1,6 @@
 //! The lines of the command `show`: the shape of a message, what is in its headers, and its payload.
 
-ghost use Rattle.std.specs.Prelude.{◌≡◌, ◌≤◌, ◌++◌, ◌&&◌, ◌||◌, ℕ, true, false, List, [], Some, IfErr, IfOk, codes, is_err, length, option_map, string_bytes};
+ghost use Rattle.std.specs.Prelude.{◌≡◌, ◌≤◌, ◌++◌, ◌&&◌, ◌||◌, ℕ, true, false, List, [], Some, Err, IfErr, IfOk, codes, is_err, length, option_map, string_bytes};
 ghost use Rattle.cose_head.specs.ItemRef.{placed};
 ghost use Rattle.cose_map.specs.Bucket.View.{bucket_pairs};
 ghost use Rattle.cose_msg.specs.Kept.{HasTaken, is_inspecting};
@@ -12,10 +12,11 @@ ghost use Rattle.cose_msg.specs.Verifier.{is_detached};
 ghost use Rattle.cosecmd.specs.Faults.{fails_by_input};
 ghost use Rattle.cosecmd.specs.Inspection.{IsInspection};
 ghost use Rattle.cosecmd.specs.Printed.{Says, bucket_lines, detached_said, header_lines, is_for_nil, item_line, refusal_shown, shape_said, shown, shown_as, shown_in};
-ghost use Rattle.cosecmd.specs.Readable.{no_payload_shown, pair_notation, payload_line, payload_shown};
+ghost use Rattle.cosecmd.specs.Readable.{item_or_bytes, no_payload_shown, pair_notation, payload_line, payload_shown};
 
 use crate::answer::cwt::token_context;
 use crate::answer::verdict::{CHUNK, program_context, reply_of, trailing_at};
+use crate::answer::words::{push_hex, push_named_hex};
 use crate::fault::Fault;
 use crate::limits::{
     LARGE_CLAIMS, LARGE_HEADER, LARGE_NESTING, Limits, SMALL_CLAIMS, SMALL_HEADER, SMALL_NESTING,
@@ -81,10 +82,9 @@ fn push_pair(
         ++ item_line diagnostic name.now (placed label.now) (placed value.now)) }
     ensures fault { IfErr result (λ fault. fault ≡ Fault.Memory) }
 {
-    let label_bytes = hex::encode(alloc, label.bytes)?;
-    let value_bytes = hex::encode(alloc, value.bytes)?;
-    let line = format!(in alloc; "{name} {label_bytes} {value_bytes}")?;
-    text.push_str(line.as_str())?;
+    push_named_hex(alloc, text, name, label.bytes)?;
+    text.push_str(" ")?;
+    push_hex(alloc, text, value.bytes)?;
     push_notation(alloc, text, label, value, diagnostic)?;
     text.push_str("\n")?;
     Ok(())
@@ -133,6 +133,24 @@ fn push_headers<const H: usize, const D: usize>(
     )
 }
 
+/// Appends bytes that are no item, and why.
+fn push_no_item(
+    alloc: Global,
+    text: &mut String,
+    bytes: &[u8],
+    refusal: Refusal,
+) -> Result<(), Fault>
+    ensures words { IfOk result (λ _. string_bytes text.new
+        ≡ string_bytes text.old ++ item_or_bytes bytes.now (Err refusal)) }
+    ensures fault { IfErr result (λ fault. fault ≡ Fault.Memory) }
+{
+    text.push_str("h'")?;
+    push_hex(alloc, text, bytes)?;
+    let words = format!(in alloc; "' refused {refusal}")?;
+    text.push_str(words.as_str())?;
+    Ok(())
+}
+
 /// Appends the line of a payload: one item of CBOR of a nesting of at most `depth` in diagnostic notation, or the bytes, and why
 /// they are no such item.
 fn push_payload(alloc: Global, text: &mut String, payload: &[u8], depth: usize) -> Result<(), Fault>
@@ -144,11 +162,7 @@ fn push_payload(alloc: Global, text: &mut String, payload: &[u8], depth: usize) 
     text.push_str("payload ")?;
     match ItemRef::read(payload, 0, depth) {
         Ok(item) => push_diagnostic(alloc, text, &item)?,
-        Err(refusal) => {
-            let digits = hex::encode(alloc, payload)?;
-            let refused = format!(in alloc; "h'{digits}' refused {refusal}")?;
-            text.push_str(refused.as_str())?;
-        }
+        Err(refusal) => push_no_item(alloc, text, payload, refusal)?,
     }
     text.push_str("\n")?;
     Ok(())
