@@ -49,6 +49,7 @@ SHARED = {
     "cose_map::map::unordered::Unordered::none",
     "cose_map::map::unordered::Unordered::push",
     "cose_map::prepared_table::PreparedTable::begin_mac",
+    "cose_msg::hashing::Hashing::begin",
     "cose_msg::reader::choice::query_of",
     "cose_msg::verifier::Verifier::feed",
     "cose_msg::verifier::Verifier::feed_across",
