@@ -7,10 +7,19 @@ what the functions take of flash and of the stack.
 from . import forms
 
 # what makes a value as large as a store or a running MAC, or may move one: where it is inlined the value is made where it stays, so that no
-# copy is on the stack
+# copy is on the stack; and what is called from one place or is smaller inlined
 INLINED = {
+    "core::array::ArrayDefault::default",
+    "core::array::DefaultsElements::at",
+    "core::slice::edits::slice+T::rotate_left",
     "cose_c::fed_keys::FedKeysKeyMeaning::begin_mac",
     "cose_c::table::keys::RefTableKeysKeyMeaning::begin_mac",
+    "cose_head::item::short_item",
+    "cose_mac::hasher::Hasher::again",
+    "cose_mac::prepared::Prepared::hmac",
+    "cose_mac::running::Running::digest_so_far",
+    "cose_mac::running::Running::mac_so_far",
+    "cose_map::choice::fitting::Fitting::answer",
     "cose_map::key_table::KeyTable::new",
     "cose_map::map::labels::Labels::none",
     "cose_map::map::labels::keys::Keys::none",
@@ -19,53 +28,63 @@ INLINED = {
     "cose_map::map::unordered::Unordered::none",
     "cose_map::prepared_table::PreparedTable::begin_mac",
     "cose_map::prepared_table::PreparedTable::empty",
+    "cose_msg::hashing::Hashing::finish",
+    "cose_msg::hashing::Hashing::put_finished",
     "cose_msg::reader::Reader::new",
     "cose_msg::verifier::Verifier::detached",
     "cose_msg::verifier::Verifier::inspecting",
     "cose_msg::verifier::Verifier::made",
     "cose_msg::verifier::Verifier::new",
-    "core::array::ArrayDefault::default",
-    "core::array::DefaultsElements::at",
-    "core::slice::edits::slice+T::rotate_left",
 }
 # what is inlined too where a module is built for speed: sets of labels, what is asked of a key, running MACs and claims are made where
 # they stay, and what the search for the key keeps shares its place on the stack with what is done before it and after it
 SHARED = {
+    "core::array::ArrayDefault::default",
+    "core::array::DefaultsElements::at",
     "cose_c::claims::admitted",
     "cose_c::fed_keys::FedKeysKeyMeaning::begin_mac",
+    "cose_c::permitted::PermittedKeysKeys::find",
     "cose_c::required::required_by",
     "cose_c::stated::labels_of",
     "cose_c::table::keys::RefTableKeysKeyMeaning::begin_mac",
+    "cose_mac::hasher::Hasher::finish",
+    "cose_map::bucket::both::check_pair",
     "cose_map::key::Key::read",
     "cose_map::key_set::KeySet::find",
+    "cose_map::key_set::KeySet::find_permitted",
     "cose_map::key_set::KeySetKeys::find",
-    "cose_map::bucket::both::check_pair",
     "cose_map::key_set::usable",
     "cose_map::map::ahead::read_ahead",
     "cose_map::map::labels::Labels::none",
     "cose_map::map::labels::keys::Keys::none",
     "cose_map::map::labels::others::Others::none",
     "cose_map::map::lookup::Lookup::new",
+    "cose_map::map::read::check_map",
     "cose_map::map::unordered::Unordered::none",
     "cose_map::map::unordered::Unordered::push",
     "cose_map::prepared_table::PreparedTable::begin_mac",
     "cose_msg::hashing::Hashing::begin",
     "cose_msg::reader::choice::query_of",
+    "cose_msg::run::take_message",
+    "cose_msg::run::verify",
     "cose_msg::verifier::Verifier::feed",
     "cose_msg::verifier::Verifier::feed_across",
-    "core::array::ArrayDefault::default",
-    "core::array::DefaultsElements::at",
 }
 # what isn't inlined there: the search for the key isn't on the stack while both buckets are read, nor is what takes the payload
 # while the headers are, nor the verifier while the claims are, nor a bucket that is asked for while a message is taken, nor what
-# is for elements in order while others are read
+# is for elements in order while others are read, nor the reader of an item while its label is looked for
 APART = {
-    "cose_c::permitted::PermittedKeys::fitting",
+    "cose_c::cose_claims::no_claims",
     "cose_c::table::cose_edge_table_verify",
     "cose_c::table::under::cose_edge_table_authenticate",
+    "cose_head::item_length::item_length",
     "cose_map::bucket::both::are_rising",
     "cose_map::bucket::both::with_element",
+    "cose_map::label::Label::of",
     "cose_map::map::labels::Labels::clear",
+    "cose_map::map::labels::keys::Keys::remove",
+    "cose_map::map::labels::others::Others::remove",
+    "cose_msg::reader::Reader::choose",
     "cose_msg::reader::Reader::payload",
     "cose_msg::reader::choice::key_for",
     "cose_msg::verifier::Verifier::protected",
@@ -86,6 +105,8 @@ OUT_OF_LINE = {
 # what has a value as large as a store on its stack: it is not made smaller at the cost of copies
 HOLDING = {
     "cose_c::authenticate::authenticated",
+    "cose_c::authenticate::verdict_under",
+    "cose_c::claims::verdict_on",
     "cose_c::message::cose_edge_verify",
     "cose_c::message::cose_edge_verify_detached",
     "cose_c::message::verify_large",
@@ -94,6 +115,8 @@ HOLDING = {
     "cose_c::stream::open_detached",
     "cose_c::table::cose_edge_table_verify",
     "cose_c::table::under::cose_edge_table_authenticate",
+    "cose_c::table::under::verdict_kept",
+    "cose_c::table::verdict_on",
     "cose_mac::hasher::Hasher::finish",
     "cose_map::bucket::both::least_of_elements_in_any_order",
     "cose_map::bucket::both::with_unprotected_in_any_order",

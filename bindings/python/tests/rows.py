@@ -208,7 +208,10 @@ def said_by(verifier: cose.Elsewhere, test: Row) -> Answer:
 
 def run_stated(group: Row, test: Row) -> None:
     """What a caller states of a message after its last byte."""
-    result, options = test["result"], {"aad": octets(group, "aad"), "wanted": KINDS[group["wanted"]]}
+    result, options = test["result"], {
+        "aad": octets(group, "aad"),
+        "wanted": KINDS[group["wanted"]],
+    }
     wanted = ("none",) if result["verdict"] == "none" else None
     for large, size in itertools.product((False, True), CUTS):
         came, how = bytearray(), f"Elsewhere, large: {large}, pieces of {size}"

@@ -45,9 +45,7 @@ class AnyClaim(unittest.TestCase):
     def test_each_label(self) -> None:
         for row in CASES["claims"]["rows"]:
             with self.subTest(row=row):
-                self.assertEqual(
-                    self.claims.value(value_of(row["label"])), value_of(row["value"])
-                )
+                self.assertEqual(self.claims.value(value_of(row["label"])), value_of(row["value"]))
 
     def test_labels(self) -> None:
         wanted = [value_of(it["label"]) for it in CASES["claims"]["rows"]]

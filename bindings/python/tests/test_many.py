@@ -129,7 +129,11 @@ class Many(unittest.TestCase):
         for token_call, message_call, verified in (
             ("verify_cwt", "verify", lambda it: cose.verify_cwt(SIGN1_KEYS, it, **options)),
             ("table_verify_cwt", "table_verify", lambda it: cose.verify_cwt(table, it, **options)),
-            ("table_verify_cwt", "table_verify", lambda it: cose.verify_many(table, [it], **options)[0]),
+            (
+                "table_verify_cwt",
+                "table_verify",
+                lambda it: cose.verify_many(table, [it], **options)[0],
+            ),
             ("table_admit", "table_authenticate", lambda it: terms.admit(it, **options)),
         ):
             for data in (signed, TAG_CWT + signed):

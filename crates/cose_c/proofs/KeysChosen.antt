@@ -4,16 +4,33 @@ use Rattle.std.specs.Prelude.{ℤ, ◌&&◌, filter, filter_map, is_some, option
 use Rattle.std.specs.List.{cons_option}
 use Rattle.cose_head.specs.Placed.{Placed}
 use Rattle.cose_head.specs.declared.reason.Reason.TheVariants.{UnknownAlg}
-use Rattle.cose_map.specs.Choice.{Question, chosen, fitting, is_answerable, only_one}
+use Rattle.cose_map.specs.Choice.{◌>>=◌, Question, algorithm_used, chosen, fits, fitting, integer_in_label, is_answerable, only_one}
 use Rattle.cose_map.specs.Key.Value.{KeyValue}
 use Rattle.cose_map.specs.KeySet.{items_in, keys_of, usable}
+use Rattle.cose_map.specs.Label.{LabelValue}
 use Rattle.cose_map.specs.Map.Read.{Read}
 use Rattle.cose_head.specs.Whole.{whole}
 use Rattle.cose_c.specs.declared.numbers.CoseStatus.{CoseStatus}
 use Rattle.cose_c.specs.KeyChoice.{first_fitting, fitting_in, key_chosen}
 use Rattle.cose_c.specs.Permitted.{PermissionValue, is_fitting, permits, permitted_in, permitted_of}
-use Rattle.cose_c.proofs.Choices.{fitting_itself}
 use Rattle.cose_c.proofs.KeySets.{a_set_is_whole, keys_of_set}
+
+-- A key that fits is the one that is found.
+from_fits : (b : Bool) (k : KeyValue) (n : ℤ) (found : KeyValue × ℤ) → (if b then Some (k, n) else None) ≡ Some found → found.0 ≡ k
+from_fits true k n found e = cc
+from_fits false k n found e = absurd cc
+
+from_number : (b : ℤ → Bool) (k : KeyValue) (number : Option ℤ) (found : KeyValue × ℤ) → (number >>= (λ n. if b n then Some (k, n) else None)) ≡ Some found → found.0 ≡ k
+from_number b k (Some n) found e = from_fits (b n) k n found e
+from_number b k None found e = absurd cc
+
+from_label : (b : ℤ → Bool) (k : KeyValue) (label : Option LabelValue) (found : KeyValue × ℤ) →
+    (label >>= (λ alg. integer_in_label alg >>= (λ n. if b n then Some (k, n) else None))) ≡ Some found → found.0 ≡ k
+from_label b k (Some alg) found e = from_number b k (integer_in_label alg) found e
+from_label b k None found e = absurd cc
+
+fitting_itself : (q : Question) (k : KeyValue) (found : KeyValue × ℤ) → fitting q k ≡ Some found → found.0 ≡ k
+fitting_itself q k found e = from_label (fits q k) k (algorithm_used q.protected_alg q.unprotected_alg k.alg) found e
 
 module _ (q : Question) (p : PermissionValue) where
   by_test : (b : Bool) (item : Placed) (others : List Placed) → is_fitting q p (usable item) ≡ b → first_fitting q p (item ∷ others) ≡ (if b then Some item else first_fitting q p others)

@@ -1,6 +1,5 @@
 pub mod Admitting
 pub mod Asked
-pub mod Choices
 pub mod ClaimsForC
 pub mod Copies
 pub mod Dates

@@ -15,7 +15,6 @@ pub mod Shape
 pub mod Stated
 pub mod KeySet
 pub mod KeyChoice
-pub mod FittingItems
 pub mod CoseClaims
 pub mod Claims
 pub mod Item

@@ -1,8 +1,8 @@
 -- Which keys of a set a caller permits: by their algorithm (RFC 9052 section 7.1), and by the length of a secret (RFC 9053 section 3.1).
-use Rattle.std.specs.Prelude.{ℕ, ℤ, pos, Bool, true, false, not, ◌&&◌, ◌||◌, List, filter, Option, Some, None, if◌then◌else◌, is_some, option_and_then}
+use Rattle.std.specs.Prelude.{ℕ, ℤ, pos, Bool, true, false, not, ◌&&◌, ◌||◌, List, filter, Option, Some, None, if◌then◌else◌, is_some}
 use Rattle.std.specs.List.{list_any}
 use Rattle.std.specs.Ordering.{int_eq}
-use Rattle.cose_map.specs.Choice.{Question, fitting, integer_in_label}
+use Rattle.cose_map.specs.Choice.{Question, fitting}
 use Rattle.cose_map.specs.Key.Value.{KeyValue, MaterialValue, elliptic, symmetric}
 use Rattle.cose_map.specs.Label.{LabelValue, number, words}
 use Rattle.cose_map.specs.Map.Read.{Read}
@@ -45,13 +45,6 @@ permits p key = permits_algorithm p key && allows_material p.least_secret key.ma
 abbrev pub is_fitting : Question → PermissionValue → Option KeyValue → Bool
 is_fitting q p (Some key) = permits p key && is_some (fitting q key)
 is_fitting q p None = false
-
--- The number of the algorithm that a key which fits is used with: that of the protected bucket, without it that of the unprotected one,
--- and without both the key's own (RFC 9052 section 3.1).
-abbrev pub number_among : Option LabelValue → Option LabelValue → Option LabelValue → Option ℤ
-number_among (Some protected) unprotected own = integer_in_label protected
-number_among None (Some unprotected) own = integer_in_label unprotected
-number_among None None own = option_and_then integer_in_label own
 
 -- The keys that are permitted, in their order.
 abbrev pub permitted_of : PermissionValue → List KeyValue → List KeyValue

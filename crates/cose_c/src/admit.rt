@@ -9,10 +9,9 @@ ghost use Rattle.cose_c.specs.CoseClaims.{no_claims};
 ghost use Rattle.cose_c.specs.Required.{GivesRequired, claims_meeting, claims_required, required_stated, required_value, unless_unmet};
 ghost use Rattle.cose_c.specs.Stated.{setting_stated};
 
-use crate::authenticate::authenticated;
+use crate::authenticate::verdict_under;
 use crate::claims::{admitted, bytes_before, bytes_from, claims_for_c, placed_claims, status_of};
 use crate::cose_claims::{CoseClaims, no_claims};
-use crate::input::blank_input;
 use crate::numbers::{AUTHENTIC, CLAIMS_REFUSED, CoseVerdict, refused_status};
 use crate::required::{CoseRequirements, Required, required_by, unmet_status};
 use crate::stated::CoseTerms;
@@ -104,8 +103,7 @@ fn claims_under<const H: usize, const D: usize>(
     ensures { GivesRequired H D (setting_stated terms.entry.now)
         (Ok (required_value required.entry.now)) token.now result }
 {
-    let mut input = blank_input();
-    let verdict = authenticated::<H, D>(terms, token, &mut input);
+    let verdict = verdict_under::<H, D>(terms, token);
     claims_after(verdict, token, D, required)
 }
 

@@ -6,7 +6,7 @@ ghost use Rattle.cose_c.specs.Message.{Covers, beside, input_given, is_accepted,
 ghost use Rattle.cose_c.specs.Stated.{setting_stated};
 
 use crate::input::CoseSignInput;
-use crate::message::{read_detached, read_whole};
+use crate::message::{read_alone, read_detached, read_whole};
 use crate::numbers::{CoseVerdict, no_message};
 use crate::permitted::PermittedKeys;
 use crate::stated::{CoseTerms, context, labels_of};
@@ -37,6 +37,32 @@ pub(crate) fn authenticated<const H: usize, const D: usize>(
         Ok(context) => {
             let mut verifier = Verifier::<H, D, PermittedKeys<'_>>::new(context);
             read_whole(&mut verifier, message, input)
+        }
+        Err(status) => no_message(status),
+    }
+}
+
+/// The verdict under terms of a message whose signature nobody verifies, by a verifier of either size. It is never inlined: the verifier
+/// is off the stack while the claims are read.
+#[inline(never)]
+pub(crate) fn verdict_under<const H: usize, const D: usize>(
+    terms: &CoseTerms<'_>,
+    message: &[u8],
+) -> CoseVerdict
+    requires some_room { 16 ≤ H }
+    requires limit { H ≤ 65535 }
+    requires nesting { D ≤ 32 }
+    ensures verdict { result ≡ verdict_given H D (setting_stated terms.entry.now)
+        result.payload_at message.now }
+    ensures payload { is_accepted result ≡ true → Covers message.now
+        (payload_given H D (setting_stated terms.entry.now) message.now)
+        result.payload_at result.payload_length }
+{
+    let labels = labels_of(&terms.understood);
+    match context(terms, &labels) {
+        Ok(context) => {
+            let mut verifier = Verifier::<H, D, PermittedKeys<'_>>::new(context);
+            read_alone(&mut verifier, message)
         }
         Err(status) => no_message(status),
     }

@@ -1,6 +1,6 @@
 //! A token in memory, by one call, and the claims of a payload.
 
-ghost use Rattle.std.specs.Prelude.{◌≡◌, ◌≢◌, ◌≤◌, ◌<◌, ◌+◌, ◌-◌, ◌^◌, min, length, ℕ, false, [], drop, take, Ok, Some, option_map};
+ghost use Rattle.std.specs.Prelude.{◌≡◌, ◌≢◌, true, ◌≤◌, ◌<◌, ◌+◌, ◌-◌, ◌^◌, min, length, ℕ, false, [], drop, take, Ok, Some, option_map};
 ghost use Rattle.cose_head.specs.ItemRef.{placed};
 ghost use Rattle.cose_head.specs.Placed.{Placed, children_of, if_utf8};
 ghost use Rattle.cose_map.specs.Key.View.{key_value};
@@ -15,6 +15,7 @@ ghost use Rattle.cose_cwt.specs.Claims.Labels as names;
 ghost use Rattle.cose_cwt.specs.Claims.Audience.{text_value};
 ghost use Rattle.cose_cwt.specs.Claims.View.{claims_value};
 ghost use Rattle.cose_c.specs.Claims.{Gives, GivesAlone, GivesAudience, GivesClaims, GivesToken, claims_given, name_given, name_seen, policy_for, policy_given, status_in, unless_refused};
+ghost use Rattle.cose_c.specs.Message.{Covers, is_accepted, payload_given, verdict_given};
 ghost use Rattle.cose_c.specs.Terms.{setting_given};
 ghost use Rattle.cose_c.specs.CoseClaims.{EndsIn, LiesIn, Ranges, StartsInside, any_value, audience_item, confirmed_curve, confirmed_sign, curve_number, element_numbered, first_in, no_claims, sign_number, no_range, text_at, text_numbered, text_range};
 
@@ -22,19 +23,19 @@ use crate::cose_claims::{
     CoseClaims, CoseRange, bytes_range, date_in, no_claims, no_range, text_range,
 };
 use crate::input::blank_input;
-use crate::message::{cose_edge_large_verify, cose_edge_verify};
+use crate::message::{cose_edge_large_verify, read_alone};
 use crate::numbers::{
     AUTHENTIC, BAD_AUDIENCE, CLAIMS_REFUSED, CoseStatus, CoseVerdict, MORE, no_message,
     plain_status, refused_status,
 };
-use crate::terms::{LARGE_NESTING, NESTING};
+use crate::terms::{HEADER, LARGE_NESTING, NESTING, context};
 use cose_cwt::laws::claims_are_of_a_tree;
 use cose_cwt::{Audience, Claims, Policy};
 use cose_head::laws::children_are_of_tree;
 use cose_head::read_item;
 use cose_map::laws::refusals_stand_inside;
 use cose_map::{Form, ItemRef, Items, Key, Label, Material, Pairs, Reason, Y, check_map};
-use cose_msg::Refusal;
+use cose_msg::{Refusal, Verifier};
 use std::slice;
 
 /// The labels of the members of a confirmation (RFC 8747 section 7.2).
@@ -522,6 +523,26 @@ pub(crate) fn claims_after(
     placed_claims(claims, verdict.payload_at, verdict.payload_length)
 }
 
+/// The verdict on a token in memory, whose signature nobody verifies. It is never inlined: the verifier is off the stack while the claims
+/// are read.
+#[inline(never)]
+fn verdict_on(keys: &[u8], aad: &[u8], token: &[u8]) -> CoseVerdict
+    ensures verdict { result
+        ≡ verdict_given 1024 8 (setting_given (keys_of keys.now) aad.now 0)
+        result.payload_at token.now }
+    ensures payload { is_accepted result ≡ true → Covers token.now
+        (payload_given 1024 8 (setting_given (keys_of keys.now) aad.now 0) token.now)
+        result.payload_at result.payload_length }
+{
+    match context(keys, aad, 0) {
+        Ok(context) => {
+            let mut verifier = Verifier::<HEADER, NESTING>::new(context);
+            read_alone(&mut verifier, token)
+        }
+        Err(status) => no_message(status),
+    }
+}
+
 /// Verifies a token in memory and reads its claims (RFC 8392 section 7.2): the bytes are the token, and nothing follows it.
 ///
 /// Where the token is a COSE_Sign1 the status is [`SIGNED`](crate::numbers::SIGNED), and no claims are returned: verify it with
@@ -537,8 +558,7 @@ pub extern "C" fn cose_edge_verify_cwt(
     ensures { GivesToken 1024 8 (setting_given (keys_of keys.now) aad.now 0)
         (policy_given policy.entry.now) token.now claims.new }
 {
-    let (mut verdict, mut input) = (no_message(plain_status(MORE)), blank_input());
-    cose_edge_verify(keys, aad, 0, token, &mut verdict, &mut input);
+    let verdict = verdict_on(keys, aad, token);
     *claims = claims_after(verdict, token, NESTING, policy);
 }
 

@@ -237,6 +237,24 @@ fn first_in<'k>(keys: &'k [u8], query: &Query<'_>, permission: &Permission) -> O
     None
 }
 
+/// The item of the terms' keys that a message of this kind, which a verifier has taken, is verified with. It is never inlined: what is asked of
+/// the key isn't on the stack while the message is taken.
+#[inline(never)]
+fn key_asked<'k, const H: usize, const D: usize, K: Keys<'k>>(
+    verifier: &Verifier<'k, H, D, K>,
+    kind: Kind,
+    terms: &CoseTerms<'_>,
+) -> CoseItem
+    ensures { result
+        ≡ item_numbers
+        (spec.key_chosen
+        (Ok (spec.question_in kind (protected_of verifier.now) (unprotected_of verifier.now)))
+        (permission_stated terms.entry.now) terms.entry.now.keys.now) }
+{
+    let query = query_of(kind, verifier.protected(), verifier.unprotected());
+    numbers_of(first_in(terms.keys, &query, &permission(terms)))
+}
+
 /// The item of the terms' keys that a message of this kind is verified with, by a verifier that has taken none of it.
 fn key_chosen<'k, const H: usize, const D: usize, K: Keys<'k>>(
     verifier: &mut Verifier<'k, H, D, K>,
@@ -252,10 +270,7 @@ fn key_chosen<'k, const H: usize, const D: usize, K: Keys<'k>>(
         (permission_stated terms.entry.now) terms.entry.now.keys.now) }
 {
     match take(verifier, message) {
-        Status::Complete => {
-            let query = query_of(kind, verifier.protected(), verifier.unprotected());
-            numbers_of(first_in(terms.keys, &query, &permission(terms)))
-        }
+        Status::Complete => key_asked(verifier, kind, terms),
         _ => no_item(),
     }
 }
@@ -283,6 +298,24 @@ fn fit_in(keys: &[u8], place: u64, query: &Query<'_>, permission: &Permission) -
     }
 }
 
+/// Whether the key at a place of the terms' key set fits a message of this kind, which a verifier has taken. It is never inlined, as
+/// [`key_asked`] isn't.
+#[inline(never)]
+fn fit_asked<'k, const H: usize, const D: usize, K: Keys<'k>>(
+    verifier: &Verifier<'k, H, D, K>,
+    kind: Kind,
+    terms: &CoseTerms<'_>,
+    place: u64,
+) -> CoseKeyFit
+    ensures { result
+        ≡ spec.fit_at
+        (spec.question_in kind (protected_of verifier.now) (unprotected_of verifier.now))
+        (permission_stated terms.entry.now) (item_at terms.entry.now.keys.now place) }
+{
+    let query = query_of(kind, verifier.protected(), verifier.unprotected());
+    fit_in(terms.keys, place, &query, &permission(terms))
+}
+
 /// Whether the key at a place of the terms' key set fits a message of this kind, by a verifier that has taken none of it.
 fn fit_at<'k, const H: usize, const D: usize, K: Keys<'k>>(
     verifier: &mut Verifier<'k, H, D, K>,
@@ -298,10 +331,7 @@ fn fit_at<'k, const H: usize, const D: usize, K: Keys<'k>>(
         (permission_stated terms.entry.now) (item_at terms.entry.now.keys.now place) }
 {
     match take(verifier, message) {
-        Status::Complete => {
-            let query = query_of(kind, verifier.protected(), verifier.unprotected());
-            fit_in(terms.keys, place, &query, &permission(terms))
-        }
+        Status::Complete => fit_asked(verifier, kind, terms, place),
         status => no_fit(status_numbers(status)),
     }
 }

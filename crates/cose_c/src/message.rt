@@ -101,6 +101,36 @@ pub(crate) fn read_whole<'k, const H: usize, const D: usize, K: Keys<'k>>(
     }
 }
 
+/// The same as [`read_whole`], for a message whose signature nobody verifies: a token's, of which the caller gets the claims alone. What
+/// a signature is verified with isn't on the stack then.
+pub(crate) fn read_alone<'k, const H: usize, const D: usize, K: Keys<'k>>(
+    verifier: &mut Verifier<'k, H, D, K>,
+    message: &[u8],
+) -> CoseVerdict
+    requires verifies { is_inspecting verifier.old ≡ false }
+    requires attached { is_detached verifier.old ≡ false }
+    requires fresh { HasTaken (to_verify (setting_in verifier.old)) [] [] verifier.old }
+    ensures verdict { result
+        ≡ verdict_read H D (setting_in verifier.old) result.payload_at message.now }
+    ensures payload { is_accepted result ≡ true → Covers message.now
+        (payload_read H D (setting_in verifier.old) message.now)
+        result.payload_at result.payload_length }
+{
+    // Laws that the proof cites.
+    settled_stays();
+    deciding_goes_last();
+    spelled_is_read();
+    authentication_decides();
+    let fed = verifier.feed(message);
+    let (_fed, rest) = message.split_at(fed.used);
+    let mut rest = SliceIntake::new(rest, 1);
+    match verify::<1, H, D, _, _, _, _>(verifier, &mut rest, &mut Nothing, &Always) {
+        Ok(verdict) => numbers_of(verdict, message.len() as u64, fed.payload_from as u64),
+        // The intake and the sink never fail, and the verifier hasn't stopped.
+        Err(_) => unreachable!(),
+    }
+}
+
 /// Verifies a message in memory (RFC 9052 sections 4.4 and 6.3): the bytes are the message, and nothing follows it.
 ///
 /// Where the status is [`SIGNED`] the message is a COSE_Sign1 that is authentic only if its signature is good, and `input` is what that

@@ -1,31 +1,25 @@
 //! The keys of a set that a caller permits: by their algorithm, and by the length of a secret.
 
-ghost use Rattle.std.specs.Prelude.{◌≡◌, true, List, [], ◌∷◌, ◌++◌, filter_map, option_map};
+ghost use Rattle.std.specs.Prelude.{◌≡◌, true, option_map};
 ghost use Rattle.std.specs.List.{list_any};
 ghost use Rattle.std.specs.Ordering.{int_eq};
 ghost use Rattle.cose_head.specs.ItemRef.{placed};
-ghost use Rattle.cose_head.specs.Placed.{children_of};
-ghost use Rattle.cose_map.specs.Choice.{Question, chosen};
-ghost use Rattle.cose_map.specs.Choice.View.{found_value, question};
+ghost use Rattle.cose_map.specs.Choice.View.{question};
 ghost use Rattle.cose_map.specs.Key.Value.{KeyValue};
 ghost use Rattle.cose_map.specs.Key.View.{key_value, material_value};
 ghost use Rattle.cose_map.specs.KeySet.{keys_of, usable};
 ghost use Rattle.cose_map.specs.Label.View.{label_value};
 ghost use Rattle.cose_map.specs.Map.View.{seen_by};
 ghost use Rattle.cose_map.specs.Restrictions.{allows_material, is_among};
-ghost use Rattle.cose_c.specs.FittingItems.{Among, fits_alone};
 ghost use Rattle.cose_c.specs.Permitted as spec;
-ghost use Rattle.cose_c.specs.Permitted.{PermissionValue, permitted_in, permitted_of};
+ghost use Rattle.cose_c.specs.Permitted.{permitted_in};
 ghost use Rattle.cose_c.specs.PermittedView.{keys_permitted, permission_value};
 
-use cose_head::{ItemRef, Items, Reason, Refusal};
-use cose_map::{Key, KeyMeaning, KeySet, KeyTable, Keys, Label, Material, Permits, Query};
+use cose_head::{ItemRef, Reason, Refusal};
+use cose_map::{Key, KeyMeaning, KeySet, Keys, Label, Material, Permits, Query};
 
 /// The number of HMAC 256/64 (RFC 9053 section 3.1), whose tag has 64 bits.
 const SHORT_MAC: i128 = 4;
-
-/// How deep a key set nests.
-const NESTING: usize = 8;
 
 /// Which keys a caller permits.
 #[derive(Clone, Copy)]
@@ -148,24 +142,11 @@ pub(crate) fn everything() -> Permission
 /// The keys of a set that are permitted, each of which is read again at each look, as those of a key set are.
 #[derive(Clone, Copy)]
 pub(crate) struct PermittedKeys<'k> {
-    set: ItemRef<'k>,
+    set: KeySet<'k>,
     permission: Permission,
 }
 
-/// The items with a permitted key that fits, of those that were looked at so far. (An item is small, and a key is large: the one that is
-/// found is read once more.)
-#[derive(Clone, Copy)]
-pub(crate) enum FittingItems<'k> {
-    /// None so far.
-    Nothing,
-    /// One.
-    One(ItemRef<'k>),
-    /// Two or more.
-    Several,
-}
-
-/// Whether an item is a usable key that is permitted and fits. It is never inlined: no key is on the stack when the one that fits is read
-/// again.
+/// Whether an item is a usable key that is permitted and fits. It is never inlined: no key is on the stack while others are looked for.
 #[inline(never)]
 pub(crate) fn is_fitting(item: &ItemRef<'_>, query: &Query<'_>, permission: &Permission) -> bool
     ensures { result
@@ -178,74 +159,6 @@ pub(crate) fn is_fitting(item: &ItemRef<'_>, query: &Query<'_>, permission: &Per
     }
 }
 
-/// What is found where there are no keys: why none fits. It is never inlined: a reader of keys is on the stack then, and no table.
-#[inline(never)]
-fn found_in_none<'k>(query: &Query) -> Result<(Key<'k>, i128), Reason>
-    ensures { found_value result ≡ chosen (question query.now) [] }
-{
-    KeyTable::<1>::new().find(query)
-}
-
-/// The number of the algorithm that a key which fits is used with: that of the protected bucket, without it that of the unprotected one,
-/// and without both the key's own.
-fn number_of(query: &Query<'_>, own: Option<Label<'_>>) -> Option<i128>
-    ensures { let q = question query.now in
-        result ≡ spec.number_among q.protected_alg q.unprotected_alg
-        (option_map label_value own.entry) }
-{
-    match query.protected_alg.or(query.unprotected_alg).or(own) {
-        Some(Label::Int(number)) => Some(number),
-        _ => None,
-    }
-}
-
-/// What is found in an item whose key fits. It is never inlined: what reads the key isn't on the stack when others are looked at.
-#[inline(never)]
-fn found_in<'k>(item: &ItemRef<'k>, query: &Query) -> Result<(Key<'k>, i128), Reason>
-    requires fits { fits_alone (question query.now) (usable (placed item.now)) ≡ true }
-    ensures { found_value result
-        ≡ chosen (question query.now) (filter_map usable (placed item.now ∷ [])) }
-{
-    match Key::read(item.bytes, item.place) {
-        Ok(key) => match number_of(query, key.alg) {
-            Some(number) => Ok((key, number)),
-            None => Err(Reason::NoKey),
-        },
-        Err(_) => Err(Reason::NoKey),
-    }
-}
-
-impl<'k> FittingItems<'k> {
-    /// With one more item, whose key is permitted and fits.
-    fn add(&mut self, item: ItemRef<'k>)
-        ensures { (q : Question) (p : PermissionValue) (before : List KeyValue)
-            → spec.is_fitting q p (usable (placed item.entry)) ≡ true → Among q p before self.old
-            → Among q p (before ++ permitted_of p (filter_map usable (placed item.entry ∷ [])))
-            self.new }
-    {
-        match self {
-            FittingItems::Nothing => *self = FittingItems::One(item),
-            FittingItems::One(_) => *self = FittingItems::Several,
-            FittingItems::Several => {}
-        }
-    }
-
-    /// With one more item, if its key is permitted and fits.
-    fn meet(&mut self, item: ItemRef<'k>, query: &Query, permission: &Permission)
-        ensures { (before : List KeyValue)
-            → Among (question query.now) (permission_value permission.now) before self.old
-            → Among (question query.now) (permission_value permission.now)
-            (before
-            ++ permitted_of (permission_value permission.now)
-            (filter_map usable (placed item.entry ∷ [])))
-            self.new }
-    {
-        if is_fitting(&item, query, permission) {
-            self.add(item);
-        }
-    }
-}
-
 impl<'k> PermittedKeys<'k> {
     /// Reads a key set (RFC 9052 section 7). It is refused as `KeySet::read` refuses it.
     pub(crate) fn read(
@@ -255,8 +168,7 @@ impl<'k> PermittedKeys<'k> {
         ensures { seen_by keys_permitted result
             ≡ permitted_in (permission_value permission) (keys_of bytes.entry.now) }
     {
-        KeySet::read(bytes)?;
-        let set = ItemRef::read(bytes, 0, NESTING)?;
+        let set = KeySet::read(bytes)?;
         Ok(PermittedKeys { set, permission })
     }
 
@@ -265,35 +177,6 @@ impl<'k> PermittedKeys<'k> {
         ensures { seen_by keys_permitted result ≡ keys_of bytes.entry.now }
     {
         PermittedKeys::read(bytes, everything())
-    }
-
-    /// The elements of an array whose keys are permitted and fit.
-    fn fitting_among(&self, array: &ItemRef<'k>, query: &Query) -> FittingItems<'k>
-        ensures { Among (question query.now) (permission_value self.now.permission)
-            (permitted_of (permission_value self.now.permission)
-            (filter_map usable (children_of (placed array.now))))
-            result }
-    {
-        let mut fitting = FittingItems::Nothing;
-        'elements: for element in Items::of(array) {
-            fitting.meet(element, query, &self.permission);
-        }
-        fitting
-    }
-
-    /// The items whose keys are permitted and fit.
-    fn fitting(&self, query: &Query) -> FittingItems<'k>
-        ensures { Among (question query.now) (permission_value self.now.permission)
-            (keys_permitted self.now) result }
-    {
-        let mut fitting = FittingItems::Nothing;
-        if self.set.is_array() {
-            return self.fitting_among(&self.set, query);
-        }
-        if self.set.is_map() {
-            fitting.meet(self.set, query, &self.permission);
-        }
-        fitting
     }
 }
 
@@ -305,10 +188,6 @@ impl KeyMeaning for PermittedKeys<'_> {
 
 impl<'k> Keys<'k> for PermittedKeys<'k> {
     fn find(&self, query: &Query) -> Result<(Key<'k>, i128), Reason> {
-        match self.fitting(query) {
-            FittingItems::Nothing => found_in_none(query),
-            FittingItems::One(item) => found_in(&item, query),
-            FittingItems::Several => Err(Reason::AmbiguousKey),
-        }
+        self.set.find_permitted(query, &self.permission)
     }
 }

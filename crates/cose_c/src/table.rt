@@ -19,10 +19,10 @@ use crate::claims::{CosePolicy, claims_after};
 use crate::cose_claims::CoseClaims;
 use crate::held::shared_table::CoseSharedTable;
 use crate::held::table::CoseTable;
-use crate::input::{CoseSignInput, blank_input};
+use crate::input::CoseSignInput;
 use crate::key_set::CoseKeySet;
-use crate::message::read_whole;
-use crate::numbers::{CLOSED, CoseStatus, CoseVerdict, MORE, no_message, plain_status};
+use crate::message::{read_alone, read_whole};
+use crate::numbers::{CLOSED, CoseStatus, CoseVerdict, no_message, plain_status};
 use crate::permitted::everything;
 use crate::table::fill::fill;
 use crate::table::keys::TableKeys;
@@ -106,6 +106,26 @@ pub extern "C" fn cose_edge_table_verify(
     };
 }
 
+/// The verdict on a token in memory, whose signature nobody verifies, under the table's keys. It is never inlined: the verifier is off the
+/// stack while the claims are read.
+#[inline(never)]
+fn verdict_on(content: &Option<TableKeys>, aad: &[u8], token: &[u8]) -> CoseVerdict
+    ensures verdict { result
+        ≡ verdict_given 1024 8 (setting_under_table (keys_in content.now) aad.now 0)
+        result.payload_at token.now }
+    ensures payload { is_accepted result ≡ true → Covers token.now
+        (payload_given 1024 8 (setting_under_table (keys_in content.now) aad.now 0) token.now)
+        result.payload_at result.payload_length }
+{
+    match context(content, aad, 0) {
+        Ok(context) => {
+            let mut verifier = Verifier::<HEADER, NESTING, &TableKeys>::new(context);
+            read_alone(&mut verifier, token)
+        }
+        Err(status) => no_message(status),
+    }
+}
+
 /// Verifies a token in memory under the table's keys and reads its claims, as `cose_verify_cwt` does under those of a key set.
 #[unsafe(no_mangle)]
 pub extern "C" fn cose_edge_table_verify_cwt(
@@ -120,7 +140,6 @@ pub extern "C" fn cose_edge_table_verify_cwt(
         (policy_given policy.entry.now) token.now claims.new }
     ensures same { table.new ≡ table.old }
 {
-    let (mut verdict, mut input) = (no_message(plain_status(MORE)), blank_input());
-    cose_edge_table_verify(table, aad, 0, token, &mut verdict, &mut input);
+    let verdict = verdict_on(&table.read().content, aad, token);
     *claims = claims_after(verdict, token, NESTING, policy);
 }

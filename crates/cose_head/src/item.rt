@@ -47,14 +47,14 @@ fn head_at(bytes: &[u8], room: usize, place: u64) -> Result<Head, Refusal>
 }
 
 /// Whether a string follows the head.
-fn is_string(head: Head) -> bool
+pub(crate) fn is_string(head: Head) -> bool
     ensures { result ≡ head_of_string head }
 {
     head.major == 2 || head.major == 3
 }
 
 /// Whether children follow the head, possibly none.
-fn is_parent(head: Head) -> bool
+pub(crate) fn is_parent(head: Head) -> bool
     ensures { result ≡ head_of_parent head }
 {
     head.major == 4 || head.major == 5 || head.major == 6
@@ -140,7 +140,7 @@ fn items_at(
 /// How many bytes the short item has that `bytes` begin with, within `room` bytes: an integer from -24 to 23, which is one byte,
 /// or a string of fewer than 24 bytes that are all there. 0 for any other.
 #[inline(always)]
-fn short_item(bytes: &[u8], room: usize) -> usize
+pub(crate) fn short_item(bytes: &[u8], room: usize) -> usize
     ensures there { result ≤ length bytes.now }
     ensures fits { result ≤ room }
     ensures exact { (depth place : ℕ) → 0 < result →

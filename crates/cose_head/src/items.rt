@@ -7,7 +7,7 @@ ghost use Rattle.cose_head.specs.Whole.{is_one_item};
 
 use crate::head::{Head, HeadStep, parse_head};
 use crate::hidden::Hidden;
-use crate::item::read_item;
+use crate::item_length::item_length;
 use crate::item_ref::ItemRef;
 use std::fmt;
 
@@ -24,9 +24,8 @@ pub struct Items<'a> {
     left: u128,
     /// The place after the last byte fits in u64.
     pub ghost in_range: { place + length rest.now < 2 ^ 64 },
-    /// The number of children fits in u128.
-    pub ghost few: { length (items_from left (record { bytes = rest.now; place = place }))
-        < 2 ^ 128 },
+    /// The bytes begin with that many items, each of a nesting of at most 32.
+    pub ghost all: { length (items_from left (record { bytes = rest.now; place = place })) ≡ left },
 }
 
 /// The number of children that the head of an array or a map announces.
@@ -48,7 +47,7 @@ impl<'a> Items<'a> {
     /// an array nor a map.
     ///
     /// [`ItemRef::read`] checks that bytes are one item, and [`Items::of`] gives the children of what it reads.
-    #[tactic(auto, unfolding(crate::specs::Placed::head_of_item, crate::specs::Placed::children_of), using(crate::proofs::lemmas::Head::Heads::got_width, crate::proofs::lemmas::Placed::Placed::few_items, crate::proofs::lemmas::Placed::Whole::one_item_is_no_half, crate::proofs::lemmas::Placed::Whole::one_item_is_no_fault))]
+    #[tactic(auto, unfolding(crate::specs::Placed::head_of_item, crate::specs::Placed::children_of), using(crate::proofs::lemmas::Head::Heads::got_width, crate::proofs::lemmas::Placed::Whole::one_item_is_no_half, crate::proofs::lemmas::Placed::Whole::one_item_is_no_fault))]
     pub fn new(bytes: &'a [u8], at: u64) -> Option<Items<'a>>
         requires one_item { is_one_item bytes.now ≡ true }
         requires in_range { at + length bytes.now < 2 ^ 64 }
@@ -101,16 +100,15 @@ impl<'a> Iterator for Items<'a> {
 
     ghost remaining = { item_count items_left };
 
-    #[tactic(auto, unfolding(crate::specs::Placed::items_from), using(crate::proofs::lemmas::Placed::Placed::few_items))]
+    #[tactic(auto, unfolding(crate::specs::Placed::items_from))]
     fn next(&mut self) -> Option<ItemRef<'a>> {
         if self.left == 0 {
             return None;
         }
-        let span = read_item(self.rest, self.rest.len(), 32).ok()?;
-        let (bytes, rest) = self.rest.split_at(span.length);
+        let (bytes, rest) = self.rest.split_at(item_length(self.rest));
         let place = self.place;
         self.left -= 1;
-        self.place += span.length as u64;
+        self.place += bytes.len() as u64;
         self.rest = rest;
         Some(ItemRef { bytes, place })
     }

@@ -42,6 +42,7 @@ mod half_head;
 mod head;
 mod hidden;
 mod item;
+mod item_length;
 mod item_ref;
 mod items;
 mod kind;

@@ -28,7 +28,8 @@ impl Hasher {
         }
     }
 
-    /// Another hasher of the same message.
+    /// Another hasher of the same message. Not inlined, so that there is no third one on the stack.
+    #[inline(never)]
     pub(crate) fn again(&self) -> Hasher
         ensures { result ≡ self.now }
     {
@@ -61,6 +62,18 @@ impl Hasher {
             Hasher::Sha384(hasher) => hasher.update(piece),
             Hasher::Sha512(hasher) => hasher.update(piece),
         }
+    }
+
+    /// The digest of the message so far and of one more piece, by another hasher. Not inlined, so that one of them at a time is on the
+    /// stack.
+    #[inline(never)]
+    pub(crate) fn digest_with(&self, piece: &[u8]) -> ArrayVec<u8, 64>
+        ensures { (hash : Hash) (message : List ℕ) → Holds hash self.now message
+            → result.items ≡ (function_of hash).digest (message ++ piece.now) }
+    {
+        let mut hasher = self.again();
+        hasher.update(piece);
+        hasher.finish()
     }
 
     /// The digest of the message.

@@ -2,9 +2,11 @@
 
 ghost use Rattle.std.specs.Prelude.{◌≡◌, ◌≤◌, length};
 ghost use Rattle.cose_mac.specs.Hash.{function_of};
+ghost use Rattle.cose_mac.specs.Hasher.{Holds};
 ghost use Rattle.cose_mac.specs.Hmac as spec;
 
 use crate::hash::{block_length, digest};
+use crate::hasher::Hasher;
 use arrayvec::ArrayVec;
 use cose_head::Hash;
 
@@ -17,7 +19,9 @@ pub(crate) const IPAD: u8 = 0x36;
 /// The byte that is repeated over the outer block.
 pub(crate) const OPAD: u8 = 0x5c;
 
-/// The key as a block: a key longer than a block is hashed, and then zeros are appended to it.
+/// The key as a block: a key longer than a block is hashed, and then zeros are appended to it. Not inlined, so that no hasher is on
+/// the stack while the key is hashed.
+#[inline(never)]
 #[tactic(auto, unfolding(crate::specs::Hmac::key_block))]
 pub(crate) fn key_block(hash: Hash, key: &[u8]) -> Block
     ensures { result.items ≡ spec.key_block (function_of hash) key.now }
@@ -46,4 +50,14 @@ pub(crate) fn xor_pad(block: &Block, pad: u8) -> Block
         padded.push(*byte ^ pad);
     }
     padded
+}
+
+/// A hasher that was fed each byte of the block XOR the byte `pad`. Not inlined, so that one padded block at a time is on the stack.
+#[inline(never)]
+pub(crate) fn padded_hasher(hash: Hash, block: &Block, pad: u8) -> Hasher
+    ensures { Holds hash result (spec.xor_pad block.now.items pad) }
+{
+    let mut hasher = Hasher::new(hash);
+    hasher.update(&xor_pad(block, pad));
+    hasher
 }

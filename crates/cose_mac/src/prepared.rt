@@ -4,7 +4,7 @@ ghost use Rattle.std.specs.Prelude.{◌≡◌, List, ℕ, [], IsTrue};
 ghost use Rattle.cose_head.specs.Algorithm.{is_mac_of};
 
 use crate::hasher::Hasher;
-use crate::hmac::{IPAD, OPAD, key_block, xor_pad};
+use crate::hmac::{IPAD, OPAD, key_block, padded_hasher};
 use crate::running::Running;
 use cose_head::Alg;
 
@@ -33,11 +33,10 @@ impl Prepared {
     {
         let hash = alg.hash();
         let block = key_block(hash, key);
-        let mut inner = Hasher::new(hash);
-        inner.update(&xor_pad(&block, IPAD));
-        let mut outer = Hasher::new(hash);
-        outer.update(&xor_pad(&block, OPAD));
-        Prepared { inner, outer }
+        Prepared {
+            inner: padded_hasher(hash, &block, IPAD),
+            outer: padded_hasher(hash, &block, OPAD),
+        }
     }
 
     /// Whether it is prepared for the algorithm: one for MACs, with the same hash function as the one that it was made for.

@@ -67,6 +67,34 @@ impl Running {
         self.hasher.update(piece);
     }
 
+    /// The MAC of the message so far, cut to the algorithm's length: [`Alg::auth_length`] bytes. Further pieces may follow it.
+    pub fn mac_so_far(&self) -> ArrayVec<u8, 64>
+        requires { IsTrue (makes_mac self.now) }
+        ensures value { IsMacOf self.now result.items }
+        ensures length { (alg : Alg) (key message : List ℕ)
+            → FedMac self.now alg key message → array_vec_len result ≡ auth_length_of alg }
+    {
+        let Some(outer) = &self.outer else {
+            unreachable!();
+        };
+        let inner = self.hasher.digest_with(&[]);
+        let mut mac = outer.digest_with(&inner);
+        mac.truncate(self.alg.auth_length());
+        mac
+    }
+
+    /// The digest of the message so far. Further pieces may follow it.
+    #[tactic(auto, unfolding(crate::specs::Hash::digest_of))]
+    pub fn digest_so_far(&self) -> ArrayVec<u8, 64>
+        requires { IsFalse (makes_mac self.now) }
+        ensures value { (alg : Alg) (message : List ℕ)
+            → FedDigest self.now alg message → result.items ≡ digest_of alg message }
+        ensures length { (alg : Alg) (message : List ℕ)
+            → FedDigest self.now alg message → array_vec_len result ≡ digest_length_of alg }
+    {
+        self.hasher.digest_with(&[])
+    }
+
     /// The MAC of the message, cut to the algorithm's length: [`Alg::auth_length`] bytes.
     pub fn finish_mac(self) -> ArrayVec<u8, 64>
         requires { IsTrue (makes_mac self) }
@@ -74,15 +102,10 @@ impl Running {
         ensures length { (alg : Alg) (key message : List ℕ)
             → FedMac self alg key message → array_vec_len result ≡ auth_length_of alg }
     {
-        let mut outer = self.outer.unwrap();
-        outer.update(&self.hasher.finish());
-        let mut mac = outer.finish();
-        mac.truncate(self.alg.auth_length());
-        mac
+        self.mac_so_far()
     }
 
     /// The digest of the message.
-    #[tactic(auto, unfolding(crate::specs::Hash::digest_of))]
     pub fn finish_digest(self) -> ArrayVec<u8, 64>
         requires { IsFalse (makes_mac self) }
         ensures value { (alg : Alg) (message : List ℕ)
@@ -90,6 +113,6 @@ impl Running {
         ensures length { (alg : Alg) (message : List ℕ)
             → FedDigest self alg message → array_vec_len result ≡ digest_length_of alg }
     {
-        self.hasher.finish()
+        self.digest_so_far()
     }
 }

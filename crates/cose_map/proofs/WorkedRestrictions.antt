@@ -2,7 +2,7 @@
 use Rattle.std.proofs.Common.{◌≡◌, pos, true, false, [], ◌∷◌, Option, Some, None, refl}
 use Rattle.cose_map.specs.Key.Value.{KeyValue, MaterialValue, symmetric, elliptic, sign}
 use Rattle.cose_map.specs.Label.{LabelValue, number, words}
-use Rattle.cose_map.specs.Restrictions.{RestrictionsValue, allowed_of, allows}
+use Rattle.cose_map.specs.Restrictions.{RestrictionsValue, allowed_of, allows, if_permitted}
 
 abbrev of : Option LabelValue → MaterialValue → KeyValue
 of alg material = record { kid = None; alg = alg; operations = None; material = material }
@@ -42,3 +42,13 @@ a_point = refl
 in_their_order : allowed_of restricted (of None two_bytes ∷ of (Some (number (pos 5))) two_bytes ∷ of (Some (number (pos 6))) two_bytes ∷ of (Some (number (pos 5))) (symmetric (1 ∷ 2 ∷ 3 ∷ [])) ∷ [])
     ≡ (of (Some (number (pos 5))) two_bytes ∷ of (Some (number (pos 5))) (symmetric (1 ∷ 2 ∷ 3 ∷ [])) ∷ [])
 in_their_order = refl
+
+-- A key of one item, by a rule.
+permitted : if_permitted (allows restricted) (Some (of (Some (number (pos 5))) two_bytes)) ≡ Some (of (Some (number (pos 5))) two_bytes)
+permitted = refl
+
+not_permitted : if_permitted (allows restricted) (Some (of None two_bytes)) ≡ None
+not_permitted = refl
+
+no_key : if_permitted (allows restricted) None ≡ None
+no_key = refl

@@ -1,7 +1,7 @@
 -- Which of the usable keys of a set may be used: by their algorithm (RFC 9052 section 7.1), and the length of a secret
 -- (RFC 9053 section 3.1).
 pub mod View
-use Rattle.std.specs.Prelude.{ℕ, ℤ, Bool, true, false, List, length, filter, Option, Some, None, Ok, Err, nat_le, ◌&&◌}
+use Rattle.std.specs.Prelude.{ℕ, ℤ, Bool, true, false, List, length, filter, Option, Some, None, Ok, Err, nat_le, ◌&&◌, if◌then◌else◌}
 use Rattle.std.specs.List.{list_any}
 use Rattle.std.specs.Ordering.{int_eq}
 use Rattle.cose_map.specs.Key.Value.{KeyValue, MaterialValue, symmetric, elliptic}
@@ -41,3 +41,8 @@ permitted_in permitted (Err refusal) = Err refusal
 
 abbrev pub allowed_in : RestrictionsValue → Read (List KeyValue) → Read (List KeyValue)
 allowed_in r read = permitted_in (allows r) read
+
+-- A key, where there is one that is permitted.
+abbrev pub if_permitted : (KeyValue → Bool) → Option KeyValue → Option KeyValue
+if_permitted permitted None = None
+if_permitted permitted (Some key) = if permitted key then Some key else None

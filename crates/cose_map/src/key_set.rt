@@ -7,6 +7,7 @@ ghost use Rattle.cose_map.specs.Key.View.{key_value};
 
 mod further;
 mod items;
+mod permitted;
 
 use crate::choice::fitting::Fitting;
 use crate::choice::query::Query;

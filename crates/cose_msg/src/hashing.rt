@@ -1,9 +1,13 @@
 //! The hash over the structure that is authenticated (RFC 9052 sections 4.4 and 6.3).
 
+ghost use Rattle.std.specs.Prelude.{◌≡◌, ℕ, List};
+ghost use Rattle.cose_head.specs.Algorithm.{is_mac_of};
+ghost use Rattle.cose_msg.specs.Answer.{Chosen as Found};
+ghost use Rattle.cose_msg.specs.Hashing.{FedAs, authenticator};
+
 use arrayvec::ArrayVec;
 use cose_mac::{Alg, Kind, Running, structure_front};
 use cose_map::KeyMeaning;
-use std::mem;
 
 /// The MAC or the digest of a message's structure: none yet, one that is being fed, or the finished one.
 #[derive(Drop)]
@@ -16,6 +20,19 @@ pub(crate) enum Hashing {
     Finished(ArrayVec<u8, 64>),
     /// Nothing is hashed here: the caller authenticates the message.
     Elsewhere,
+}
+
+/// The MAC or the digest of what was fed so far.
+fn result_so_far(running: &Running) -> ArrayVec<u8, 64>
+    ensures { (found : Found) (message : List ℕ)
+        → FedAs (is_mac_of found.alg) running.now found message
+        → result.items ≡ authenticator found message }
+{
+    if running.is_mac() {
+        running.mac_so_far()
+    } else {
+        running.digest_so_far()
+    }
 }
 
 impl Hashing {
@@ -84,23 +101,26 @@ impl Hashing {
         }
     }
 
+    /// Puts the finished bytes here. Not inlined, so that no second hash is on the stack while they are computed.
+    #[inline(never)]
+    fn put_finished(&mut self, bytes: ArrayVec<u8, 64>)
+        ensures { self.new ≡ Hashing.Finished bytes }
+    {
+        *self = Hashing::Finished(bytes);
+    }
+
     /// Replaces what was fed by its MAC or digest.
     pub(crate) fn finish(&mut self)
         ensures finished { (found : Found) (message : List ℕ) → is_elsewhere self.old ≡ false
             → Hashes self.old found message → result_of self.new ≡ authenticator found message }
         ensures kept { is_elsewhere self.new ≡ is_elsewhere self.old }
     {
-        match mem::replace(self, Hashing::Nothing) {
+        match self {
             Hashing::Running(running) => {
-                let bytes = if running.is_mac() {
-                    running.finish_mac()
-                } else {
-                    running.finish_digest()
-                };
-                *self = Hashing::Finished(bytes);
+                let bytes = result_so_far(running);
+                self.put_finished(bytes);
             }
-            Hashing::Elsewhere => *self = Hashing::Elsewhere,
-            Hashing::Nothing | Hashing::Finished(_) => {}
+            Hashing::Nothing | Hashing::Finished(_) | Hashing::Elsewhere => {}
         }
     }
 

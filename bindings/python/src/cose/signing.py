@@ -95,9 +95,7 @@ class Sign1Maker:
         return room.raw[: made.length]
 
 
-def sign1(
-    payload: Buffer, *, alg: int, sign: Sign, kid: Buffer = b"", aad: Buffer = b""
-) -> bytes:
+def sign1(payload: Buffer, *, alg: int, sign: Sign, kid: Buffer = b"", aad: Buffer = b"") -> bytes:
     """Makes a COSE_Sign1 with a signature that `sign` makes.
 
     alg: an algorithm of signatures (RFC 9053 table 1, RFC 9864 section 2.1).
@@ -134,7 +132,9 @@ def ecdsa_signer(private_key: Any) -> Sign:
         "secp521r1": (hashes.SHA512(), 66),
     }
     if private_key.curve.name not in known:
-        raise ValueError(f"private_key should be on P-256, P-384 or P-521: {private_key.curve.name}")
+        raise ValueError(
+            f"private_key should be on P-256, P-384 or P-521: {private_key.curve.name}"
+        )
     digest_of, size = known[private_key.curve.name]
 
     def sign(digest: bytes) -> bytes:

@@ -121,7 +121,9 @@ class Verifier:
         it._prepare(keys, aad, wanted, ecdsa, large)
         stated = (algorithms, least_secret, short_mac, without_alg, (), payload_limit)
         terms = Terms(it._keys, it._aad, wanted, *stated)
-        it._begin(("edge_open_under", "edge_open_under_detached"), (byref(terms.struct),), payload_length)
+        it._begin(
+            ("edge_open_under", "edge_open_under_detached"), (byref(terms.struct),), payload_length
+        )
         return it
 
     def _prepare(

@@ -12,12 +12,10 @@ use crate::admit::claims_after;
 use crate::cose_claims::{CoseClaims, no_claims};
 use crate::held::shared_table::CoseSharedTable;
 use crate::held::table::{CoseTable, HeldTable};
-use crate::input::{CoseSignInput, blank_input};
+use crate::input::CoseSignInput;
 use crate::key_set::{CoseKeySet, no_key_set};
-use crate::message::read_whole;
-use crate::numbers::{
-    BAD_ARGUMENT, CLOSED, CoseStatus, CoseVerdict, MORE, no_message, plain_status,
-};
+use crate::message::{read_alone, read_whole};
+use crate::numbers::{BAD_ARGUMENT, CLOSED, CoseStatus, CoseVerdict, no_message, plain_status};
 use crate::required::{CoseRequirements, required_by};
 use crate::stated::{CoseTerms, count_before_zero, is_known, labels_of, payload_limit, permission};
 use crate::table::fill::fill;
@@ -116,6 +114,25 @@ pub extern "C" fn cose_edge_table_authenticate(
     };
 }
 
+/// The verdict on a token in memory, whose signature nobody verifies, under the terms of what is held. It is never inlined: the verifier
+/// is off the stack while the claims are read.
+#[inline(never)]
+fn verdict_kept(held: &HeldTable, token: &[u8]) -> CoseVerdict
+    ensures verdict { result
+        ≡ verdict_given 1024 8 (setting_kept held.now) result.payload_at token.now }
+    ensures payload { is_accepted result ≡ true → Covers token.now
+        (payload_given 1024 8 (setting_kept held.now) token.now)
+        result.payload_at result.payload_length }
+{
+    match context(held) {
+        Ok(context) => {
+            let mut verifier = Verifier::<HEADER, NESTING, &TableKeys>::new(context);
+            read_alone(&mut verifier, token)
+        }
+        Err(status) => no_message(status),
+    }
+}
+
 /// Verifies a token in memory under the table's terms, and reads its claims where they meet requirements, as `cose_admit` does under a
 /// struct of terms.
 #[unsafe(no_mangle)]
@@ -131,8 +148,7 @@ pub extern "C" fn cose_edge_table_admit(
 {
     *claims = match required_by(requirements) {
         Ok(required) => {
-            let (mut verdict, mut input) = (no_message(plain_status(MORE)), blank_input());
-            cose_edge_table_authenticate(table, token, &mut verdict, &mut input);
+            let verdict = verdict_kept(table.read(), token);
             claims_after(verdict, token, NESTING, &required)
         }
         Err(status) => no_claims(status),

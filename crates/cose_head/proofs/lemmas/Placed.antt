@@ -1,3 +1,4 @@
+pub mod AllThere
 pub mod Inside
 pub mod Placed
 pub mod PlacedTrees

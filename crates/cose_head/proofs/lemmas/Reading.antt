@@ -1,3 +1,4 @@
+pub mod ByHeads
 pub mod Complete
 pub mod ItemSteps
 pub mod Measured

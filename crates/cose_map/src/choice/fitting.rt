@@ -10,10 +10,12 @@ ghost use Rattle.cose_map.specs.Key.Value.{KeyValue};
 ghost use Rattle.cose_map.specs.Key.View.{key_value};
 ghost use Rattle.cose_map.specs.KeySet.{usable, usable_with};
 ghost use Rattle.cose_map.specs.Map.View.{pairs_left};
+ghost use Rattle.cose_map.specs.Restrictions.{if_permitted};
 
 use crate::choice::query::Query;
 use crate::key::Key;
 use crate::key::members::Members;
+use crate::restrictions::Permits;
 use cose_head::{ItemRef, Reason};
 
 /// The keys that fit, of those that were checked so far.
@@ -63,6 +65,36 @@ impl<'k> Fitting<'k> {
     {
         if let Ok(members) = Key::checked(item.bytes, item.place) {
             self.meet_members(&members, query);
+        }
+    }
+
+    /// With the key that has these members, if it is a usable one that the rule permits and that fits. Not inlined, as
+    /// [`Fitting::meet_members`] isn't.
+    #[inline(never)]
+    fn meet_permitted_members<P: Permits>(&mut self, members: &Members<'k>, query: &Query, rule: &P)
+        ensures { (rest : List (KeyValue × ℤ)) → with_rest (question query.now) self.new rest
+            ≡ with_rest (question query.now) self.old
+            (cons_option (option_and_then (fitting_key (question query.now))
+            (if_permitted (P.permitted rule.now)
+            (usable_with (key_by (placed members.now.key) (pairs_left members.now.pairs))))) rest) }
+    {
+        if let Ok(key) = Key::of_members(members) {
+            if rule.permits(&key) {
+                self.meet(&key, query);
+            }
+        }
+    }
+
+    /// With the key that an item is, if it is a usable one that the rule permits and that fits.
+    #[tactic(auto, unfolding(crate::specs::Key::key_of))]
+    pub(crate) fn meet_permitted<P: Permits>(&mut self, item: &ItemRef<'k>, query: &Query, rule: &P)
+        ensures { (rest : List (KeyValue × ℤ)) → with_rest (question query.now) self.new rest
+            ≡ with_rest (question query.now) self.old
+            (cons_option (option_and_then (fitting_key (question query.now))
+            (if_permitted (P.permitted rule.now) (usable (placed item.now)))) rest) }
+    {
+        if let Ok(members) = Key::checked(item.bytes, item.place) {
+            self.meet_permitted_members(&members, query, rule);
         }
     }
 

@@ -5,5 +5,5 @@ use Rattle.cose_c.proofs.admit.claims_under.Goals as goal
 
 pub returns : goal.returns
 returns g c =
-    required_given g.row.H g.row.D c.args.token.now _ _ (setting_stated c.args.terms.now) (required_value c.args.required.now) c.authenticated-verdict.ensures.verdict c.authenticated-verdict.ensures.payload
+    required_given g.row.H g.row.D c.args.token.now _ _ (setting_stated c.args.terms.now) (required_value c.args.required.now) c.verdict_under-verdict.ensures.verdict c.verdict_under-verdict.ensures.payload
     (of_terms c.args.terms.now) c.claims_after.ensures.other c.claims_after.ensures.admitted c.claims_after.ensures.place c.claims_after.ensures.count

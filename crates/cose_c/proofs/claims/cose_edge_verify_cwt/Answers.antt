@@ -7,5 +7,5 @@ use Rattle.cose_c.proofs.claims.cose_edge_verify_cwt.Goals as goal
 pub returns : goal.returns
 returns c =
     let keys = keys_of c.args.keys.now in
-    token_given 1024 8 c.args.token.now _ _ (setting_given keys c.args.aad.now 0) (policy_given c.args.policy.now) c.cose_edge_verify.ensures.verdict c.cose_edge_verify.ensures.payload
+    token_given 1024 8 c.args.token.now _ _ (setting_given keys c.args.aad.now 0) (policy_given c.args.policy.now) c.verdict_on-verdict.ensures.verdict c.verdict_on-verdict.ensures.payload
     (of_arguments keys c.args.aad.now 0) c.claims_after.ensures.other c.claims_after.ensures.admitted c.claims_after.ensures.place c.claims_after.ensures.count

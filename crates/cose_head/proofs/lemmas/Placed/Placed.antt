@@ -1,5 +1,5 @@
 -- What an item is, by its major type.
-use Rattle.std.proofs.Common.{◌≡◌, ◌≢◌, ◌<◌, ℕ, ◌+◌, pos, negsuc, Bool, true, false, List, [], take, drop, Option, Some, None, refl, ap, ◌∙◌, arith, ⊎_elim, ◌≤◌, zero, suc, length, Result, Ok, Err}
+use Rattle.std.proofs.Common.{◌≡◌, ◌≢◌, ◌<◌, ℕ, ◌+◌, pos, negsuc, Bool, true, false, List, [], take, drop, Option, Some, None, refl, ap, ◌∙◌, arith, ⊎_elim, ◌≤◌, Result, Ok, Err}
 use Rattle.std.specs.Prelude.{nat_lt, ◌==◌, if◌then◌else◌, IsUtf8, option_map}
 use Rattle.std.specs.Str.{is_utf8}
 use Rattle.std.specs.Result.{MatchResult, result_ok}
@@ -8,11 +8,9 @@ use Rattle.std.proofs.lemmas.Bool.Decides.{nat_tests}
 use Rattle.std.proofs.lemmas.Str.{IsUtf8-from_is_utf8, is_utf8-from_IsUtf8}
 use Rattle.cose_head.specs.declared.head.Head.{Head}
 use Rattle.cose_head.specs.declared.head.HeadStep.TheVariants.{Got}
-use Rattle.cose_head.specs.declared.item.Span.{Span}
-use Rattle.cose_head.specs.declared.refusal.Refusal.{Refusal}
 use Rattle.cose_head.specs.Head.{bare_head}
 use Rattle.cose_head.specs.Reading.{child_count}
-use Rattle.cose_head.specs.Placed.{Placed, look_with, simple_look, integer_in, bytes_in, text_in, if_utf8, is_a_text, truth_in, is_an_array, is_a_map, is_a_float, head_of_item, has_children, children_of, past_head, children_if_any, items_from, first_of, span_at}
+use Rattle.cose_head.specs.Placed.{Placed, look_with, simple_look, integer_in, bytes_in, text_in, if_utf8, is_a_text, truth_in, is_an_array, is_a_map, is_a_float, head_of_item, has_children, children_of, past_head, children_if_any, items_from}
 use Rattle.cose_head.proofs.lemmas.Head.Heads.{got_width}
 
 pub unsigned_found : (h : Head) (rest : List ℕ) → h.major ≡ 0 → integer_in (look_with h rest) ≡ Some (pos h.arg)
@@ -94,10 +92,6 @@ children_found bytes rest place used left h e after found =
     let width : used ≡ h.width = got_width bytes h used e in
     rw (after, ← e, width) (announced (has_children h) (child_count h) left (record { bytes = drop h.width bytes; place = place + h.width }) found)
 
-first_few : (others : Placed → List Placed) (n : ℕ) (p : Placed) → ((q : Placed) → length (others q) ≤ n) → (found : Result Span Refusal) → length (first_of others p found) ≤ suc n
-first_few others n p few (Ok span) = let rest = few (record { bytes = drop span.length p.bytes; place = p.place + span.length }) in omega (arith, rest)
-first_few others n p few (Err refusal) = omega arith
-
 -- the children of an item that may have none
 abbrev pub listed : Option (List Placed) → List Placed
 listed None = []
@@ -112,8 +106,3 @@ its_children p items e = ap listed e ∙ all_children p
 
 pub no_children : (p : Placed) → None ≡ children_if_any p → [] ≡ children_of p
 no_children p e = ap listed e ∙ all_children p
-
-pub few_items : (n : ℕ) (p : Placed) → length (items_from n p) ≤ n
-unfolding items_from
-few_items zero p = omega arith
-few_items (suc n) p = first_few (items_from n) n p (few_items n) (span_at p.bytes)

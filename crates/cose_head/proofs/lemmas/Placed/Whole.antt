@@ -1,9 +1,9 @@
 -- Bytes that are exactly one item.
-use Rattle.std.proofs.Common.{◌≡◌, ℕ, ◌+◌, ◌<◌, ◌≤◌, Bool, true, false, List, [], length, take, drop, Some, Result, Ok, Err, IfOk, IfErr, refl, sym, ap, ◌∙◌, arith}
+use Rattle.std.proofs.Common.{◌≡◌, ℕ, ◌+◌, ◌<◌, ◌≤◌, Bool, true, false, List, [], length, drop, Result, Ok, Err, IfErr, refl, sym, ap, ◌∙◌, arith}
 use Rattle.std.proofs.lemmas.Bool.{cond_both, ne_eqb, eqb-true}
 use Rattle.std.proofs.lemmas.List.{length-drop, length-append, nil_from_length}
 use Rattle.std.specs.Prelude.{◌==◌, if◌then◌else◌}
-use Rattle.std.specs.Result.{is_ok, result_ok}
+use Rattle.std.specs.Result.{is_ok}
 use Rattle.cose_head.specs.declared.head.Head.{Head}
 use Rattle.cose_head.specs.declared.head.HeadStep.TheVariants.{Got, More, Fault}
 use Rattle.cose_head.specs.declared.item.Span.{Span}
@@ -12,7 +12,7 @@ use Rattle.cose_head.specs.declared.reason.Reason.TheVariants.{Trailing}
 use Rattle.cose_head.specs.declared.refusal.Refusal.{Refusal}
 use Rattle.cose_head.specs.Item.{Item, tag, Spells, depth_of}
 use Rattle.cose_head.specs.Reading.{Left, Outcome, after, read}
-use Rattle.cose_head.specs.Measured.{left_of, span_found, nesting, SpansItem}
+use Rattle.cose_head.specs.Measured.{left_of, span_found, nesting}
 use Rattle.cose_head.specs.Laws.{Steps}
 use Rattle.cose_head.specs.Head.{bare_head}
 use Rattle.cose_head.specs.Placed.{Placed, head_of_item, past_head}
@@ -156,13 +156,3 @@ enclosed_is_one_item p h e found six =
     let s = one_item_is_spelled p.bytes e in
     let t = spelled_item 32 p s.0 s.1 s.2 in
     rw found (enclosed_found s.0 p t (tag_of_head s.0 p t (rw found at six)))
-
--- an item that the reader of spans found, and that the bytes begin with
-pub span_is_one_item : (bytes : List ℕ) (result : Result Span Refusal) (span : Span) → IfOk result (SpansItem bytes) →
-    IfOk result (λ found. found.depth ≤ 32) → result_ok result ≡ Some span → is_one_item (take span.length bytes) ≡ true
-span_is_one_item bytes (Ok found) span spelled nested e =
-    let same : found ≡ span = cc in
-    let deep : depth_of spelled.content ≡ found.depth = spelled.nested in
-    ap (λ s. is_one_item (take s.length bytes)) (sym same)
-    ∙ spelled_is_one_item (take found.length bytes) spelled.content spelled.spelled (omega arith)
-span_is_one_item bytes (Err refusal) span spelled nested e = absurd cc

@@ -1,10 +1,18 @@
-use Rattle.std.proofs.Common.{ap, ◌∙◌, sym}
-use Rattle.cose_head.specs.Whole.{is_one_item}
-use Rattle.cose_head.proofs.lemmas.Placed.Whole.{span_is_one_item}
+use Rattle.std.proofs.Common.{arith}
+use Rattle.cose_head.proofs.lemmas.Placed.AllThere.{is_next}
 use Rattle.cose_head.proofs.items.ItemsIterator.next.Goals as goal
+
+pub invariant_of-self-clause-all : goal.invariant_of-self-clause-all
+invariant_of-self-clause-all c =
+    (is_next _ _ _ _ _ c.split_at.ensures.front c.split_at.ensures.back c.item_length.ensures.exact _ c.args.self.now.all
+    (omega (arith, c.if-self-eq0.false))).others
 
 pub invariant_of-result-clause-is_item : goal.invariant_of-result-clause-is_item
 invariant_of-result-clause-is_item c =
-    ap is_one_item c.split_at.ensures.front
-    ∙ span_is_one_item c.args.self.now.rest.now c.read_item.result c.in_ok-span.span c.read_item.ensures.spelled c.read_item.ensures.nested
-    (sym (c.ok.ensures.value) ∙ c.in_ok-span.was)
+    (is_next _ _ _ _ _ c.split_at.ensures.front c.split_at.ensures.back c.item_length.ensures.exact _ c.args.self.now.all
+    (omega (arith, c.if-self-eq0.false))).is_one
+
+pub returns-clause-steps : goal.returns-clause-steps
+returns-clause-steps c =
+    (is_next _ _ _ _ _ c.split_at.ensures.front c.split_at.ensures.back c.item_length.ensures.exact _ c.args.self.now.all
+    (omega (arith, c.if-self-eq0.false))).goes_on
