@@ -1,5 +1,5 @@
 -- Keys of the type OKP and their choice on examples, by computing.
-use Rattle.std.proofs.Common.{◌≡◌, ℕ, ℤ, pos, negsuc, List, [], ◌∷◌, ◌++◌, Option, Some, None, Result, Ok, Err, map, replicate, refl}
+use Rattle.std.proofs.Common.{◌≡◌, ℕ, pos, negsuc, List, [], ◌∷◌, ◌++◌, Option, Some, None, Result, Ok, Err, map, replicate, refl}
 use Rattle.std.specs.Str.{is_utf8, chars}
 use Rattle.cose_head.specs.declared.further.FurtherAlg.{FurtherAlg}
 use Rattle.cose_head.specs.declared.further.FurtherAlg.TheVariants as algorithms
@@ -13,7 +13,6 @@ use Rattle.cose_head.specs.Head.{bare_head}
 use Rattle.cose_head.specs.Item.{depth_of}
 use Rattle.cose_head.specs.Reading.{read, head}
 use Rattle.cose_head.specs.Placed.{look, children_of, items_from, head_of_item}
-use Rattle.cose_map.specs.Choice.{Question}
 use Rattle.cose_map.specs.Choice.Further.{chosen}
 use Rattle.cose_map.specs.Key.Form.{key_table}
 use Rattle.cose_map.specs.Key.Okp.{OkpValue, okp_by, okp_of}
