@@ -84,7 +84,7 @@ APART = {
     "cose_map::map::labels::Labels::clear",
     "cose_map::map::labels::keys::Keys::remove",
     "cose_map::map::labels::others::Others::remove",
-    "cose_msg::reader::Reader::choose",
+    "cose_msg::reader::choice::choose",
     "cose_msg::reader::Reader::payload",
     "cose_msg::reader::choice::key_for",
     "cose_msg::verifier::Verifier::protected",

@@ -1,21 +1,27 @@
 //! The choice of the key, once both header buckets are there (RFC 9052 sections 3.1 and 7.1).
 
-ghost use Rattle.std.specs.Prelude.{◌≡◌, ◌<◌, ◌≤◌, ◌+◌, ◌^◌, ℕ, ℤ, List, Ok, []};
+ghost use Rattle.std.specs.Prelude.{◌≡◌, ◌==◌, ◌<◌, ◌≤◌, ◌+◌, ◌^◌, ℕ, ℤ, IfOk, List, Ok, [], length, map};
+ghost use Rattle.cose_map.specs.Bucket.{bucket_of};
+ghost use Rattle.cose_map.specs.Bucket.Both.{pair_fault};
 ghost use Rattle.cose_map.specs.Bucket.View.{bucket_pairs};
 ghost use Rattle.cose_map.specs.Choice.View.{question};
 ghost use Rattle.cose_map.specs.Key.View.{material_value};
+ghost use Rattle.cose_map.specs.Label.View.{label_value};
+ghost use Rattle.cose_map.specs.Map.Pairs.{Pair};
+ghost use Rattle.cose_map.specs.Map.View.{refusal_in};
 ghost use Rattle.cose_msg.specs.Answer.{Headers};
-ghost use Rattle.cose_msg.specs.Chosen.{choice_seen};
+ghost use Rattle.cose_msg.specs.Choosing.{choice_of};
+ghost use Rattle.cose_msg.specs.Chosen.{ChoiceIs, choice_seen};
 ghost use Rattle.cose_msg.specs.Message.{operation_of as operation_value, question_of, secret_of as secret_bytes};
-ghost use Rattle.cose_msg.specs.Phases.{headers_of};
+ghost use Rattle.cose_msg.specs.Phases.{headers_of, placed_at};
 ghost use Rattle.cose_msg.specs.Reader.{keys_in};
-ghost use Rattle.cose_msg.specs.Task.{choice_among};
+ghost use Rattle.cose_msg.specs.Task.{Task, choice_among, keys_for};
 
 use crate::hashing::Hashing;
 use crate::reader::{Chosen, Reader};
 use cose_head::{Kind, Reason, Refusal};
 use cose_mac::Alg;
-use cose_map::{Bucket, Keys, Material, Query, check_pair};
+use cose_map::{Bucket, Keys, Label, Material, Query, check_pair};
 
 /// The operation that verifies messages of a kind (RFC 9052 section 7.1, table 5).
 fn operation_of(kind: Kind) -> i128
@@ -56,6 +62,16 @@ pub(crate) fn query_of<'q>(
     }
 }
 
+/// The contents of both header buckets of a message of this kind, which are at these places and were found good.
+#[derive(Clone, Copy)]
+struct Contents<'s> {
+    kind: Kind,
+    protected: &'s [u8],
+    protected_at: u64,
+    unprotected: &'s [u8],
+    at: u64,
+}
+
 /// What both buckets say of the key.
 #[derive(Clone, Copy)]
 struct Asked<'q> {
@@ -63,6 +79,43 @@ struct Asked<'q> {
     query: Query<'q>,
     /// Whether the protected bucket has no pair.
     is_bare: bool,
+}
+
+/// Puts what both buckets say of the key into its place, once they are checked together. Not inlined, so that the buckets
+/// aren't on the stack while a key is looked for. (It isn't returned, so that it is copied no more often than it has to be.)
+#[inline(never)]
+fn ask<'s, const D: usize>(
+    contents: &Contents<'s>,
+    understood: &[Label<'_>],
+    into: &mut Asked<'s>,
+) -> Result<(), Refusal>
+    requires nesting { D ≤ 32 }
+    requires protected_early { contents.now.protected_at ≤ 36 }
+    requires protected_short { length contents.now.protected.now ≤ 65535 }
+    requires early { contents.now.at < 2 ^ 17 }
+    requires short { length contents.now.unprotected.now ≤ 65535 }
+    ensures refused { (pairs others : List Pair)
+        → bucket_of D (placed_at contents.now.protected_at contents.now.protected.now) ≡ Ok pairs
+        → bucket_of D (placed_at contents.now.at contents.now.unprotected.now) ≡ Ok others
+        → refusal_in result ≡ pair_fault pairs others (map label_value understood.now)
+        (contents.now.at + length contents.now.unprotected.now) }
+    ensures query { (pairs others : List Pair)
+        → bucket_of D (placed_at contents.now.protected_at contents.now.protected.now) ≡ Ok pairs
+        → bucket_of D (placed_at contents.now.at contents.now.unprotected.now) ≡ Ok others
+        → IfOk result (λ _. question into.new.query
+        ≡ question_of (headers_of contents.now.kind [] pairs others)) }
+    ensures bare { (pairs others : List Pair)
+        → bucket_of D (placed_at contents.now.protected_at contents.now.protected.now) ≡ Ok pairs
+        → bucket_of D (placed_at contents.now.at contents.now.unprotected.now) ≡ Ok others
+        → IfOk result (λ _. into.new.is_bare ≡ (length pairs == 0)) }
+{
+    let protected = Bucket::again(contents.protected, contents.protected_at, D)?;
+    let unprotected = Bucket::again(contents.unprotected, contents.at, D)?;
+    let place = contents.at + contents.unprotected.len() as u64;
+    check_pair(&protected, &unprotected, understood, place)?;
+    into.query = query_of(contents.kind, &protected, &unprotected);
+    into.is_bare = protected.is_empty();
+    Ok(())
 }
 
 /// Puts the one key of these that fits the query into its place, if one is to be chosen. (A key is large, so that it isn't
@@ -91,96 +144,54 @@ fn key_for<'k, K: Keys<'k>>(
     }
 }
 
+/// Puts the key that the buckets choose into its place, if one is to be chosen, and returns whether the protected bucket has
+/// no pair.
+fn choose<'k, const D: usize, K: Keys<'k>>(
+    keys: Option<&K>,
+    contents: &Contents<'_>,
+    understood: &[Label<'_>],
+    into: &mut Option<Chosen<'k>>,
+) -> Result<bool, Refusal>
+    requires nesting { D ≤ 32 }
+    requires protected_early { contents.now.protected_at ≤ 36 }
+    requires protected_short { length contents.now.protected.now ≤ 65535 }
+    requires early { contents.now.at < 2 ^ 17 }
+    requires short { length contents.now.unprotected.now ≤ 65535 }
+    ensures { (task : Task) (pairs others : List Pair)
+        → map label_value understood.now ≡ task.setting.understood
+        → keys_in K.usable keys.entry ≡ keys_for task
+        → bucket_of D (placed_at contents.now.protected_at contents.now.protected.now) ≡ Ok pairs
+        → bucket_of D (placed_at contents.now.at contents.now.unprotected.now) ≡ Ok others
+        → ChoiceIs pairs result into.new
+        (choice_of task (headers_of contents.now.kind contents.now.protected.now pairs others)
+        (contents.now.at + length contents.now.unprotected.now)) }
+{
+    let mut asked = Asked {
+        query: Query {
+            kind: contents.kind,
+            operation: 0,
+            protected_alg: None,
+            unprotected_alg: None,
+            kid: None,
+        },
+        is_bare: false,
+    };
+    ask::<D>(contents, understood, &mut asked)?;
+    let place = contents.at + contents.unprotected.len() as u64;
+    match key_for(keys, &asked.query, into) {
+        Ok(()) => Ok(asked.is_bare),
+        Err(reason) => Err(Refusal { reason, place }),
+    }
+}
+
 impl<'k, const H: usize, const D: usize> Reader<'k, H, D> {
-    ghost use Rattle.std.specs.Prelude.{◌==◌, IfOk, length, map, option_map};
-    ghost use Rattle.cose_map.specs.Bucket.{bucket_of};
-    ghost use Rattle.cose_map.specs.Bucket.Both.{pair_fault};
-    ghost use Rattle.cose_map.specs.Label.View.{label_value};
-    ghost use Rattle.cose_map.specs.Map.Pairs.{Pair};
-    ghost use Rattle.cose_map.specs.Map.View.{refusal_in};
-    ghost use Rattle.cose_msg.specs.Choosing.{choice_of};
-    ghost use Rattle.cose_msg.specs.Chosen.{ChoiceIs, chosen_value};
+    ghost use Rattle.std.specs.Prelude.{option_map};
+    ghost use Rattle.cose_msg.specs.Chosen.{chosen_value};
     ghost use Rattle.cose_msg.specs.Hashing.{HashesFor, is_elsewhere};
-    ghost use Rattle.cose_msg.specs.Phases.{both_buckets, headers_so_far, placed_at};
+    ghost use Rattle.cose_msg.specs.Phases.{both_buckets, headers_so_far};
     ghost use Rattle.cose_msg.specs.Reading.{Reading};
-    ghost use Rattle.cose_msg.specs.Reader.{HasFindings, ReaderMeans, task_in};
-    ghost use Rattle.cose_msg.specs.Task.{Task, asks, keys_for, rules_of};
-
-    /// Puts what both buckets say of the key into its place, once they are checked together. Their contents are at these
-    /// places, and were found good. Not inlined, so that the buckets aren't on the stack while a key is looked for. (It isn't
-    /// returned, so that it is copied no more often than it has to be.)
-    #[inline(never)]
-    fn asked<'s>(
-        &'s self,
-        kind: Kind,
-        protected_at: u64,
-        at: u64,
-        into: &mut Asked<'s>,
-    ) -> Result<(), Refusal>
-        requires protected_early { protected_at ≤ 36 }
-        requires early { at < 2 ^ 17 }
-        ensures refused { (pairs others : List Pair)
-            → bucket_of D (placed_at protected_at self.now.protected.items) ≡ Ok pairs
-            → bucket_of D (placed_at at self.now.unprotected.items) ≡ Ok others
-            → refusal_in result ≡ pair_fault pairs others
-            (map label_value self.now.terms.understood.now)
-            (at + length self.now.unprotected.items) }
-        ensures query { (pairs others : List Pair)
-            → bucket_of D (placed_at protected_at self.now.protected.items) ≡ Ok pairs
-            → bucket_of D (placed_at at self.now.unprotected.items) ≡ Ok others
-            → IfOk result (λ _. question into.new.query
-            ≡ question_of (headers_of kind [] pairs others)) }
-        ensures bare { (pairs others : List Pair)
-            → bucket_of D (placed_at protected_at self.now.protected.items) ≡ Ok pairs
-            → bucket_of D (placed_at at self.now.unprotected.items) ≡ Ok others
-            → IfOk result (λ _. into.new.is_bare ≡ (length pairs == 0)) }
-    {
-        let protected = Bucket::again(self.protected.as_slice(), protected_at, D)?;
-        let unprotected = Bucket::again(self.unprotected.as_slice(), at, D)?;
-        let place = at + self.unprotected.len() as u64;
-        check_pair(&protected, &unprotected, self.terms.understood, place)?;
-        into.query = query_of(kind, &protected, &unprotected);
-        into.is_bare = protected.is_empty();
-        Ok(())
-    }
-
-    /// Puts the key that the buckets choose into its place, if one is to be chosen, and returns whether the protected bucket
-    /// has no pair. The contents of both are at these places, and were found good.
-    fn choose<K: Keys<'k>>(
-        &self,
-        keys: Option<&K>,
-        kind: Kind,
-        protected_at: u64,
-        at: u64,
-        into: &mut Option<Chosen<'k>>,
-    ) -> Result<bool, Refusal>
-        requires protected_early { protected_at ≤ 36 }
-        requires early { at < 2 ^ 17 }
-        ensures { (task : Task) (pairs others : List Pair) → task_in task self.now ≡ task
-            → keys_in K.usable keys.entry ≡ keys_for task
-            → bucket_of D (placed_at protected_at self.now.protected.items) ≡ Ok pairs
-            → bucket_of D (placed_at at self.now.unprotected.items) ≡ Ok others
-            → ChoiceIs pairs result into.new
-            (choice_of task (headers_of kind self.now.protected.items pairs others)
-            (at + length self.now.unprotected.items)) }
-    {
-        let mut asked = Asked {
-            query: Query {
-                kind,
-                operation: 0,
-                protected_alg: None,
-                unprotected_alg: None,
-                kid: None,
-            },
-            is_bare: false,
-        };
-        self.asked(kind, protected_at, at, &mut asked)?;
-        let place = at + self.unprotected.len() as u64;
-        match key_for(keys, &asked.query, into) {
-            Ok(()) => Ok(asked.is_bare),
-            Err(reason) => Err(Refusal { reason, place }),
-        }
-    }
+    ghost use Rattle.cose_msg.specs.Reader.{HasFindings, ReaderMeans};
+    ghost use Rattle.cose_msg.specs.Task.{asks, rules_of};
 
     /// Begins the hash over the structure, where a key was chosen and the message isn't authenticated elsewhere. Not
     /// inlined, so that it isn't on the stack while the key is looked for.
@@ -230,11 +241,18 @@ impl<'k, const H: usize, const D: usize> Reader<'k, H, D> {
             (at + length self.old.unprotected.items) more) }
     {
         let after = at + self.unprotected.len() as u64;
-        let mut chosen = None;
-        match self.choose(keys, kind, protected_at, at, &mut chosen) {
+        let protected = self.protected.as_slice();
+        let unprotected = self.unprotected.as_slice();
+        let contents = Contents {
+            kind,
+            protected,
+            protected_at,
+            unprotected,
+            at,
+        };
+        match choose::<D, _>(keys, &contents, self.terms.understood, &mut self.chosen) {
             Ok(is_bare) => {
-                Self::begin_hashing(keys, elsewhere, &chosen, &mut self.hashing);
-                self.chosen = chosen;
+                Self::begin_hashing(keys, elsewhere, &self.chosen, &mut self.hashing);
                 self.begin_payload_head(kind, is_bare, after);
             }
             Err(refusal) => self.refuse(refusal.reason, refusal.place),

@@ -1,6 +1,6 @@
 use Rattle.std.proofs.Common.{arith}
 use Rattle.std.proofs.lemmas.Grind.{common_steps}
-use Rattle.cose_msg.proofs.reader.Reader.asked.Goals as goal
+use Rattle.cose_msg.proofs.reader.choice.ask.Goals as goal
 
 pub overflow_add-place : goal.overflow_add-place
 overflow_add-place g c = grind (arith, common_steps)
