@@ -19,6 +19,7 @@ ghost use Rattle.cose_msg.specs.Task.{Task, choice_among, keys_for};
 
 use crate::hashing::Hashing;
 use crate::reader::{Chosen, Reader};
+use arrayvec::ArrayVec;
 use cose_head::{Kind, Reason, Refusal};
 use cose_mac::Alg;
 use cose_map::{Bucket, Keys, Label, Material, Query, check_pair};
@@ -62,13 +63,13 @@ pub(crate) fn query_of<'q>(
     }
 }
 
-/// The contents of both header buckets of a message of this kind, which are at these places and were found good.
+/// The stores of both header buckets of a message of this kind, whose contents are at these places and were found good.
 #[derive(Clone, Copy)]
-struct Contents<'s> {
+struct Stores<'s, const H: usize> {
     kind: Kind,
-    protected: &'s [u8],
+    protected: &'s ArrayVec<u8, H>,
     protected_at: u64,
-    unprotected: &'s [u8],
+    unprotected: &'s ArrayVec<u8, H>,
     at: u64,
 }
 
@@ -84,36 +85,35 @@ struct Asked<'q> {
 /// Puts what both buckets say of the key into its place, once they are checked together. Not inlined, so that the buckets
 /// aren't on the stack while a key is looked for. (It isn't returned, so that it is copied no more often than it has to be.)
 #[inline(never)]
-fn ask<'s, const D: usize>(
-    contents: &Contents<'s>,
+fn ask<'s, const H: usize, const D: usize>(
+    stores: &'s Stores<'s, H>,
     understood: &[Label<'_>],
     into: &mut Asked<'s>,
 ) -> Result<(), Refusal>
+    requires limit { H ≤ 65535 }
     requires nesting { D ≤ 32 }
-    requires protected_early { contents.now.protected_at ≤ 36 }
-    requires protected_short { length contents.now.protected.now ≤ 65535 }
-    requires early { contents.now.at < 2 ^ 17 }
-    requires short { length contents.now.unprotected.now ≤ 65535 }
+    requires protected_early { stores.now.protected_at ≤ 36 }
+    requires early { stores.now.at < 2 ^ 17 }
     ensures refused { (pairs others : List Pair)
-        → bucket_of D (placed_at contents.now.protected_at contents.now.protected.now) ≡ Ok pairs
-        → bucket_of D (placed_at contents.now.at contents.now.unprotected.now) ≡ Ok others
+        → bucket_of D (placed_at stores.now.protected_at stores.now.protected.now.items) ≡ Ok pairs
+        → bucket_of D (placed_at stores.now.at stores.now.unprotected.now.items) ≡ Ok others
         → refusal_in result ≡ pair_fault pairs others (map label_value understood.now)
-        (contents.now.at + length contents.now.unprotected.now) }
+        (stores.now.at + length stores.now.unprotected.now.items) }
     ensures query { (pairs others : List Pair)
-        → bucket_of D (placed_at contents.now.protected_at contents.now.protected.now) ≡ Ok pairs
-        → bucket_of D (placed_at contents.now.at contents.now.unprotected.now) ≡ Ok others
+        → bucket_of D (placed_at stores.now.protected_at stores.now.protected.now.items) ≡ Ok pairs
+        → bucket_of D (placed_at stores.now.at stores.now.unprotected.now.items) ≡ Ok others
         → IfOk result (λ _. question into.new.query
-        ≡ question_of (headers_of contents.now.kind [] pairs others)) }
+        ≡ question_of (headers_of stores.now.kind [] pairs others)) }
     ensures bare { (pairs others : List Pair)
-        → bucket_of D (placed_at contents.now.protected_at contents.now.protected.now) ≡ Ok pairs
-        → bucket_of D (placed_at contents.now.at contents.now.unprotected.now) ≡ Ok others
+        → bucket_of D (placed_at stores.now.protected_at stores.now.protected.now.items) ≡ Ok pairs
+        → bucket_of D (placed_at stores.now.at stores.now.unprotected.now.items) ≡ Ok others
         → IfOk result (λ _. into.new.is_bare ≡ (length pairs == 0)) }
 {
-    let protected = Bucket::again(contents.protected, contents.protected_at, D)?;
-    let unprotected = Bucket::again(contents.unprotected, contents.at, D)?;
-    let place = contents.at + contents.unprotected.len() as u64;
+    let protected = Bucket::again(stores.protected.as_slice(), stores.protected_at, D)?;
+    let unprotected = Bucket::again(stores.unprotected.as_slice(), stores.at, D)?;
+    let place = stores.at + stores.unprotected.len() as u64;
     check_pair(&protected, &unprotected, understood, place)?;
-    into.query = query_of(contents.kind, &protected, &unprotected);
+    into.query = query_of(stores.kind, &protected, &unprotected);
     into.is_bare = protected.is_empty();
     Ok(())
 }
@@ -146,29 +146,28 @@ fn key_for<'k, K: Keys<'k>>(
 
 /// Puts the key that the buckets choose into its place, if one is to be chosen, and returns whether the protected bucket has
 /// no pair.
-fn choose<'k, const D: usize, K: Keys<'k>>(
+fn choose<'k, const H: usize, const D: usize, K: Keys<'k>>(
     keys: Option<&K>,
-    contents: &Contents<'_>,
+    stores: &Stores<'_, H>,
     understood: &[Label<'_>],
     into: &mut Option<Chosen<'k>>,
 ) -> Result<bool, Refusal>
+    requires limit { H ≤ 65535 }
     requires nesting { D ≤ 32 }
-    requires protected_early { contents.now.protected_at ≤ 36 }
-    requires protected_short { length contents.now.protected.now ≤ 65535 }
-    requires early { contents.now.at < 2 ^ 17 }
-    requires short { length contents.now.unprotected.now ≤ 65535 }
+    requires protected_early { stores.now.protected_at ≤ 36 }
+    requires early { stores.now.at < 2 ^ 17 }
     ensures { (task : Task) (pairs others : List Pair)
         → map label_value understood.now ≡ task.setting.understood
         → keys_in K.usable keys.entry ≡ keys_for task
-        → bucket_of D (placed_at contents.now.protected_at contents.now.protected.now) ≡ Ok pairs
-        → bucket_of D (placed_at contents.now.at contents.now.unprotected.now) ≡ Ok others
+        → bucket_of D (placed_at stores.now.protected_at stores.now.protected.now.items) ≡ Ok pairs
+        → bucket_of D (placed_at stores.now.at stores.now.unprotected.now.items) ≡ Ok others
         → ChoiceIs pairs result into.new
-        (choice_of task (headers_of contents.now.kind contents.now.protected.now pairs others)
-        (contents.now.at + length contents.now.unprotected.now)) }
+        (choice_of task (headers_of stores.now.kind stores.now.protected.now.items pairs others)
+        (stores.now.at + length stores.now.unprotected.now.items)) }
 {
     let mut asked = Asked {
         query: Query {
-            kind: contents.kind,
+            kind: stores.kind,
             operation: 0,
             protected_alg: None,
             unprotected_alg: None,
@@ -176,8 +175,8 @@ fn choose<'k, const D: usize, K: Keys<'k>>(
         },
         is_bare: false,
     };
-    ask::<D>(contents, understood, &mut asked)?;
-    let place = contents.at + contents.unprotected.len() as u64;
+    ask::<H, D>(stores, understood, &mut asked)?;
+    let place = stores.at + stores.unprotected.len() as u64;
     match key_for(keys, &asked.query, into) {
         Ok(()) => Ok(asked.is_bare),
         Err(reason) => Err(Refusal { reason, place }),
@@ -241,16 +240,14 @@ impl<'k, const H: usize, const D: usize> Reader<'k, H, D> {
             (at + length self.old.unprotected.items) more) }
     {
         let after = at + self.unprotected.len() as u64;
-        let protected = self.protected.as_slice();
-        let unprotected = self.unprotected.as_slice();
-        let contents = Contents {
+        let stores = Stores {
             kind,
-            protected,
+            protected: &self.protected,
             protected_at,
-            unprotected,
+            unprotected: &self.unprotected,
             at,
         };
-        match choose::<D, _>(keys, &contents, self.terms.understood, &mut self.chosen) {
+        match choose::<H, D, _>(keys, &stores, self.terms.understood, &mut self.chosen) {
             Ok(is_bare) => {
                 Self::begin_hashing(keys, elsewhere, &self.chosen, &mut self.hashing);
                 self.begin_payload_head(kind, is_bare, after);

@@ -15,7 +15,7 @@ returns-in-Ok g c = record {
   reads_on = λ task pairs others among away e good found_good.
       let headers = headers_of c.args.kind c.args.self.now.protected.items pairs others in
       let place = c.args.at + length c.args.self.now.unprotected.items in
-      let seen = rw (c.as_slice-protected.ensures.value, c.as_slice-unprotected.ensures.value) at (c.choose.ensures task pairs others (ap (λ (t : Task). t.setting.understood) e.0) among) in
+      let seen = c.choose.ensures task pairs others (ap (λ (t : Task). t.setting.understood) e.0) among in
       let is = choice_is_found pairs c.in-Ok.is_bare c.choose.new.into (choice_of task (headers_of c.args.kind c.args.self.now.protected.items pairs others) (c.args.at + length c.args.self.now.unprotected.items)) (rw c.in-Ok.is at (seen good found_good)) in
       let chooses : choice_of task (headers_of c.args.kind c.args.self.now.protected.items pairs others) (c.args.at + length c.args.self.now.unprotected.items) ≡ Ok (option_map chosen_value c.choose.new.into) = is.is in
       let known : Known = record { headers = headers_of c.args.kind c.args.self.now.protected.items pairs others; chosen = option_map chosen_value c.choose.new.into; payload = []; auth = [] } in
@@ -29,7 +29,7 @@ returns-in-Err g c = record {
   reads_on = λ task pairs others among away e good found_good.
       let headers = headers_of c.args.kind c.args.self.now.protected.items pairs others in
       let place = c.args.at + length c.args.self.now.unprotected.items in
-      let seen = rw (c.as_slice-protected.ensures.value, c.as_slice-unprotected.ensures.value) at (c.choose.ensures task pairs others (ap (λ (t : Task). t.setting.understood) e.0) among) in
+      let seen = c.choose.ensures task pairs others (ap (λ (t : Task). t.setting.understood) e.0) among in
       let is = choice_is_refused pairs c.in-Err.refusal c.choose.new.into (choice_of task (headers_of c.args.kind c.args.self.now.protected.items pairs others) (c.args.at + length c.args.self.now.unprotected.items)) (rw c.in-Err.is at (seen good found_good)) in
       let refuses : choice_of task (headers_of c.args.kind c.args.self.now.protected.items pairs others) (c.args.at + length c.args.self.now.unprotected.items) ≡ Err c.in-Err.refusal = is in
       moved c.refuse.new.self _ _ refl refl (choice_refuses g.row.H g.row.D task headers place c.in-Err.refusal refuses)
