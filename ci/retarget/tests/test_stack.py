@@ -74,8 +74,8 @@ class Stack(unittest.TestCase):
         names = ("large_verify", "large_feed", "verify", "admit", "feed", "device_feed", "claims")
         names = [f"cose_edge_{it}" for it in names]
         for way, wanted in (
-            ("speed", (163840, 6144, 8192, 9216, 5120, 4096, 7168)),
-            ("size", (163840, 9216, 11264, 13312, 9216, 7168, 9216)),
+            ("speed", (163840, 6144, 8192, 8192, 5120, 4096, 7168)),
+            ("size", (163840, 8192, 11264, 12288, 8192, 7168, 9216)),
         ):
             self.assertEqual(tuple(stack.promised(it, way) for it in names), wanted)
             self.assertEqual(stack.promised("cose_edge_table_verify_cwt", way), wanted[2])

@@ -1,8 +1,8 @@
 -- The verdict on bytes in memory, of which the first ones were fed.
-use Rattle.std.proofs.Common.{◌≡◌, inl, inr, ℕ, zero, suc, ◌-◌, ◌<◌, ◌≤◌, ℤ, Bool, true, false, List, [], ◌++◌, length, take, drop, Option, Some, None, Result, Ok, Err, refl, sym, ap, subst, ◌∙◌, ◌||◌, not, arith}
+use Rattle.std.proofs.Common.{◌≡◌, inl, inr, ℕ, zero, suc, ◌-◌, ◌<◌, ◌≤◌, ℤ, Bool, true, false, List, [], ◌∷◌, ◌++◌, length, take, drop, Option, Some, None, Result, Ok, Err, refl, sym, ap, subst, ◌∙◌, ◌||◌, not, arith}
 use Rattle.std.proofs.lemmas.Bool.Decides.{nat_tests}
 use Rattle.std.proofs.lemmas.List.{append-nil, length-drop, length-take, take-append-drop}
-use Rattle.std.proofs.Math.Seq.{take-length}
+use Rattle.std.proofs.Math.Seq.{drop-length, take-length}
 use Rattle.std.specs.Io.KnownBytes.{Consumes, IsAtEnd}
 use Rattle.std.specs.Prelude.{IfOk, IsSomeAnd, min, nat_lt, ◌⊎◌}
 use Rattle.cose_head.specs.declared.algorithm.Alg.{Alg}
@@ -129,6 +129,25 @@ reads stays rules bytes used false e uses =
 
 pub read_as_fed : MessageStays → (rules : Rules) (bytes : List ℕ) (used : ℕ) → Uses rules [] bytes used → message rules bytes ≡ message rules (take used bytes)
 read_as_fed stays rules bytes used uses = reads stays rules bytes used (message rules (take used bytes)).settled refl uses
+
+-- And what was taken after that: where it isn't settled no byte is left.
+nothing_before : (taken rest : List ℕ) → taken ++ rest ≡ [] → taken ≡ []
+nothing_before [] rest e = refl
+nothing_before (b ∷ taken) rest e = absurd cc
+
+then_reads : MessageStays → (rules : Rules) (bytes taken rest : List ℕ) (used : ℕ) (settled : Bool) → (message rules (take used bytes)).settled ≡ settled → Uses rules [] bytes used →
+    drop used bytes ≡ taken ++ rest → message rules (take used bytes ++ taken) ≡ message rules (take used bytes)
+then_reads stays rules bytes taken rest used true e uses left = stays rules (take used bytes) taken e
+then_reads stays rules bytes taken rest used false e uses left =
+    let all : used ≡ length bytes = uses.all e in
+    let none : taken ++ rest ≡ [] = sym left ∙ ap (λ (n : ℕ). drop n bytes) all ∙ drop-length bytes in
+    ap (λ (t : List ℕ). message rules (take used bytes ++ t)) (nothing_before taken rest none) ∙ ap (message rules) (append-nil (take used bytes))
+
+pub read_as_taken : MessageStays → (rules : Rules) (bytes taken : List ℕ) (used : ℕ) (come come_after : Option (List ℕ)) → Uses rules [] bytes used → come ≡ Some (drop used bytes) →
+    Consumes come come_after taken → message rules bytes ≡ message rules (take used bytes ++ taken)
+read_as_taken stays rules bytes taken used come None uses told of_bytes = let none = rw told at of_bytes in absurd none
+read_as_taken stays rules bytes taken used come (Some rest) uses told of_bytes =
+    read_as_fed stays rules bytes used uses ∙ sym (then_reads stays rules bytes taken rest used (message rules (take used bytes)).settled refl uses (rw told at of_bytes))
 
 -- A part of bytes covers what it has.
 pub covers : (bytes content : List ℕ) (from to at count : ℕ) → from ≤ to → to ≤ length bytes → content ≡ part_of bytes from to → at ≡ from → count ≡ length content → Covers bytes content at count

@@ -20,7 +20,7 @@ use Rattle.cose_c.specs.CoseClaims.{no_claims}
 use Rattle.cose_c.specs.Message.{Covers, is_accepted, payload_given, verdict_given}
 use Rattle.cose_c.specs.Numbers.{plain_status}
 use Rattle.cose_c.specs.Permitted.{permitted_in}
-use Rattle.cose_c.specs.Required.{GivesRequired, claims_meeting}
+use Rattle.cose_c.specs.Required.{GivesAfter, GivesRequired, claims_meeting}
 use Rattle.cose_c.specs.Stated.{is_unknown, labels_stated, permission_stated, setting_among, setting_stated}
 use Rattle.cose_c.specs.Table.{setting_under_table}
 use Rattle.cose_c.specs.TableUnder.{setting_kept, setting_of_both}
@@ -84,10 +84,17 @@ module _ (room nesting : ℕ) (token : List ℕ) (v : CoseVerdict) (claims : Cos
   token_given (Ok setting) policy is covers none other gives place count = gives_token room nesting setting policy token v claims is covers other gives place count
   token_given (Err status) policy is covers none other gives place count = other (λ one. none (ap (λ (u : CoseVerdict). u.status) (sym is) ∙ one)) ∙ ap (λ (u : CoseVerdict). no_claims (status_in u)) is
 
-  pub required_given : (given : Result Setting CoseStatus) (r : RequirementsValue) → v ≡ verdict_given room nesting given v.payload_at token →
+  required_given : (given : Result Setting CoseStatus) (r : RequirementsValue) → v ≡ verdict_given room nesting given v.payload_at token →
       (is_accepted v ≡ true → Covers token (payload_given room nesting given token) v.payload_at v.payload_length) → SaysNoVerdict given →
       (v.status ≢ 1 → claims ≡ no_claims (status_in v)) →
       (v.status ≡ 1 → Gives (take v.payload_length (drop v.payload_at token)) (claims_meeting nesting r (take v.payload_length (drop v.payload_at token))) claims) →
       (v.status ≡ 1 → claims.payload_at ≡ v.payload_at) → (v.status ≡ 1 → claims.payload_length ≡ v.payload_length) → GivesRequired room nesting given (Ok r) token claims
   required_given (Ok setting) r is covers none other gives place count = gives_required room nesting setting r token v claims is covers other gives place count
   required_given (Err status) r is covers none other gives place count = other (λ one. none (ap (λ (u : CoseVerdict). u.status) (sym is) ∙ one)) ∙ ap (λ (u : CoseVerdict). no_claims (status_in u)) is
+
+  -- The same, from what is given after the verdict.
+  pub required_after : (given : Result Setting CoseStatus) (required : Result RequirementsValue CoseStatus) → v ≡ verdict_given room nesting given v.payload_at token →
+      (is_accepted v ≡ true → Covers token (payload_given room nesting given token) v.payload_at v.payload_length) → SaysNoVerdict given →
+      GivesAfter nesting v required token claims → GivesRequired room nesting given required token claims
+  required_after given (Err status) is covers none gives = gives
+  required_after given (Ok r) is covers none gives = required_given given r is covers none gives.other gives.admitted gives.place gives.count

@@ -1,5 +1,5 @@
 -- What a caller requires of tokens in one struct, and what it gets then.
-use Rattle.std.specs.Prelude.{◌≡◌, ◌≢◌, ℕ, pos, Bool, true, false, not, ◌||◌, List, [], ◌∷◌, length, filter, Option, Some, None, Result, Ok, Err, is_some, option_map, nat_lt, ◌==◌, if◌then◌else◌}
+use Rattle.std.specs.Prelude.{◌≡◌, ◌≢◌, ℕ, pos, Bool, true, false, not, ◌||◌, List, [], ◌∷◌, length, take, drop, filter, Option, Some, None, Result, Ok, Err, is_some, option_map, nat_lt, ◌==◌, if◌then◌else◌}
 use Rattle.std.specs.Borrow.{Bor}
 use Rattle.std.specs.Ordering.{int_eq}
 use Rattle.cose_head.specs.Placed.{if_utf8}
@@ -16,6 +16,7 @@ use Rattle.cose_cwt.specs.Claims.Audience.{text_value}
 use Rattle.cose_cwt.specs.Requirements.{RequirementsValue, met, registered}
 use Rattle.cose_cwt.specs.Requirements.View.{requirements_value}
 use Rattle.cose_c.specs.declared.numbers.CoseStatus.{CoseStatus}
+use Rattle.cose_c.specs.declared.numbers.CoseVerdict.{CoseVerdict}
 use Rattle.cose_c.specs.declared.cose_claims.CoseClaims.{CoseClaims}
 use Rattle.cose_c.specs.declared.required.CoseRequirements.{CoseRequirements}
 use Rattle.cose_c.specs.declared.required.Required.{Required}
@@ -160,6 +161,18 @@ claims_meeting depth r payload = if_meeting r (admitted_claims depth (policy_of 
 abbrev pub claims_required : ℕ → Result RequirementsValue CoseStatus → List ℕ → Result ClaimsValue CoseStatus
 claims_required depth (Ok r) payload = claims_meeting depth r payload
 claims_required depth (Err status) payload = Err status
+
+-- What is given of a token whose verdict is known: the claims of its payload, where it is authentic; otherwise its status.
+pub record ClaimsAfter (nesting : ℕ) (verdict : CoseVerdict) (r : RequirementsValue) (token : List ℕ) (claims : CoseClaims) : Type 0 where
+  pub other : verdict.status ≢ 1 → claims ≡ no_claims (status_in verdict)
+  pub admitted : verdict.status ≡ 1 → Gives (take verdict.payload_length (drop verdict.payload_at token)) (claims_meeting nesting r (take verdict.payload_length (drop verdict.payload_at token))) claims
+  pub place : verdict.status ≡ 1 → claims.payload_at ≡ verdict.payload_at
+  pub count : verdict.status ≡ 1 → claims.payload_length ≡ verdict.payload_length
+
+-- And where it isn't known what is required, that status.
+abbrev pub GivesAfter : ℕ → CoseVerdict → Result RequirementsValue CoseStatus → List ℕ → CoseClaims → Type 0
+GivesAfter nesting verdict (Err status) token claims = claims ≡ no_claims status
+GivesAfter nesting verdict (Ok r) token claims = ClaimsAfter nesting verdict r token claims
 
 -- What a caller gets of a token in a setting (RFC 8392 section 7.2): its claims, where its message is authentic; otherwise the status of
 -- its message, so of a COSE_Sign1 that its signature is to be verified.

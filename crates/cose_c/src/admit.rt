@@ -6,7 +6,7 @@ ghost use Rattle.cose_cwt.specs.Claims.View.{claims_value};
 ghost use Rattle.cose_cwt.specs.Requirements.{met};
 ghost use Rattle.cose_c.specs.Claims.{Gives, GivesAlone, status_in};
 ghost use Rattle.cose_c.specs.CoseClaims.{no_claims};
-ghost use Rattle.cose_c.specs.Required.{GivesRequired, claims_meeting, claims_required, required_stated, required_value, unless_unmet};
+ghost use Rattle.cose_c.specs.Required.{GivesAfter, GivesRequired, claims_meeting, claims_required, required_stated, required_value, unless_unmet};
 ghost use Rattle.cose_c.specs.Stated.{setting_stated};
 
 use crate::authenticate::verdict_under;
@@ -61,10 +61,9 @@ fn claims_required(payload: &[u8], depth: usize, requirements: &CoseRequirements
     }
 }
 
-/// The claims of a token whose verdict is known. It is never inlined: what it takes of the stack is free while the message is read.
-#[inline(never)]
+/// The claims of a token whose verdict is known, where it is known what is required of them.
 #[tactic(auto, using(crate::proofs::ClaimsForC::gives_at_any_place))]
-pub(crate) fn claims_after(
+fn claims_by(
     verdict: CoseVerdict,
     token: &[u8],
     depth: usize,
@@ -91,20 +90,40 @@ pub(crate) fn claims_after(
     placed_claims(claims, verdict.payload_at, verdict.payload_length)
 }
 
-/// The claims of a token under terms, by a verifier of either size.
+/// Puts the claims of a token whose verdict is known into their place. It is never inlined: neither they nor what is required of them is on
+/// the stack while the message is read.
+#[inline(never)]
+pub(crate) fn claims_after(
+    verdict: CoseVerdict,
+    token: &[u8],
+    depth: usize,
+    requirements: &CoseRequirements<'_>,
+    into: &mut CoseClaims,
+)
+    requires { depth ≤ 32 }
+    ensures { GivesAfter depth verdict (required_stated requirements.entry.now) token.now into.new }
+{
+    *into = match required_by(requirements) {
+        Ok(required) => claims_by(verdict, token, depth, &required),
+        Err(status) => no_claims(status),
+    };
+}
+
+/// Puts the claims of a token under terms, by a verifier of either size, into their place.
 fn claims_under<const H: usize, const D: usize>(
     terms: &CoseTerms<'_>,
-    required: &Required<'_>,
+    requirements: &CoseRequirements<'_>,
     token: &[u8],
-) -> CoseClaims
+    into: &mut CoseClaims,
+)
     requires some_room { 16 ≤ H }
     requires limit { H ≤ 65535 }
     requires nesting { D ≤ 32 }
     ensures { GivesRequired H D (setting_stated terms.entry.now)
-        (Ok (required_value required.entry.now)) token.now result }
+        (required_stated requirements.entry.now) token.now into.new }
 {
     let verdict = verdict_under::<H, D>(terms, token);
-    claims_after(verdict, token, D, required)
+    claims_after(verdict, token, D, requirements, into);
 }
 
 /// Verifies a token in memory under terms, and reads its claims where they meet requirements (RFC 8392 section 7.2): the bytes are the
@@ -122,10 +141,7 @@ pub extern "C" fn cose_edge_admit(
     ensures { GivesRequired 1024 8 (setting_stated terms.entry.now)
         (required_stated requirements.entry.now) token.now claims.new }
 {
-    *claims = match required_by(requirements) {
-        Ok(required) => claims_under::<HEADER, NESTING>(terms, &required, token),
-        Err(status) => no_claims(status),
-    };
+    claims_under::<HEADER, NESTING>(terms, requirements, token, claims);
 }
 
 /// The same for headers of 65,535 bytes, where headers and claims nest 16 deep.
@@ -139,10 +155,7 @@ pub extern "C" fn cose_edge_large_admit(
     ensures { GivesRequired 65535 16 (setting_stated terms.entry.now)
         (required_stated requirements.entry.now) token.now claims.new }
 {
-    *claims = match required_by(requirements) {
-        Ok(required) => claims_under::<LARGE_HEADER, LARGE_NESTING>(terms, &required, token),
-        Err(status) => no_claims(status),
-    };
+    claims_under::<LARGE_HEADER, LARGE_NESTING>(terms, requirements, token, claims);
 }
 
 /// Reads the claims of a payload that is known to be authentic, such as that of a COSE_Sign1 whose signature is good, where they meet

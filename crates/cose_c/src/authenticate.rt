@@ -6,7 +6,7 @@ ghost use Rattle.cose_c.specs.Message.{Covers, beside, input_given, is_accepted,
 ghost use Rattle.cose_c.specs.Stated.{setting_stated};
 
 use crate::input::CoseSignInput;
-use crate::message::{read_alone, read_detached, read_whole};
+use crate::message::{read_detached, read_whole, take_whole};
 use crate::numbers::{CoseVerdict, no_message};
 use crate::permitted::PermittedKeys;
 use crate::stated::{CoseTerms, context, labels_of};
@@ -62,7 +62,7 @@ pub(crate) fn verdict_under<const H: usize, const D: usize>(
     match context(terms, &labels) {
         Ok(context) => {
             let mut verifier = Verifier::<H, D, PermittedKeys<'_>>::new(context);
-            read_alone(&mut verifier, message)
+            take_whole(&mut verifier, message)
         }
         Err(status) => no_message(status),
     }

@@ -23,7 +23,7 @@ use crate::cose_claims::{
     CoseClaims, CoseRange, bytes_range, date_in, no_claims, no_range, text_range,
 };
 use crate::input::blank_input;
-use crate::message::{cose_edge_large_verify, read_alone};
+use crate::message::{cose_edge_large_verify, take_whole};
 use crate::numbers::{
     AUTHENTIC, BAD_AUDIENCE, CLAIMS_REFUSED, CoseStatus, CoseVerdict, MORE, no_message,
     plain_status, refused_status,
@@ -537,7 +537,7 @@ fn verdict_on(keys: &[u8], aad: &[u8], token: &[u8]) -> CoseVerdict
     match context(keys, aad, 0) {
         Ok(context) => {
             let mut verifier = Verifier::<HEADER, NESTING>::new(context);
-            read_alone(&mut verifier, token)
+            take_whole(&mut verifier, token)
         }
         Err(status) => no_message(status),
     }

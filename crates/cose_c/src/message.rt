@@ -5,9 +5,10 @@ ghost use Rattle.cose_map.specs.KeySet.{keys_of};
 ghost use Rattle.cose_msg.specs.Answer.{decided};
 ghost use Rattle.cose_msg.specs.Kept.{HasTaken, is_inspecting};
 ghost use Rattle.cose_msg.specs.Message.{given};
+ghost use Rattle.cose_msg.specs.Shown.{sign_input_of};
 ghost use Rattle.cose_msg.specs.Task.{to_verify};
 ghost use Rattle.cose_msg.specs.Verifier.{is_detached, setting_in};
-ghost use Rattle.cose_c.specs.Input.{GivesAll};
+ghost use Rattle.cose_c.specs.Input.{GivesAll, has_point};
 ghost use Rattle.cose_c.specs.Message.{Covers, beside, input_read, input_given, is_accepted, is_past_limits, payload_read, payload_given, verdict_given, verdict_read};
 ghost use Rattle.cose_c.specs.Numbers.{one_message, unless_signed, verdict_numbers};
 ghost use Rattle.cose_c.specs.Terms.{setting_given};
@@ -66,6 +67,42 @@ fn numbers_of(verdict: Verdict, count: u64, at: u64) -> CoseVerdict
     }
 }
 
+/// Takes all bytes of a message, by a verifier that has taken none, and returns the verdict on them. What a signature is verified with
+/// stays in the verifier.
+pub(crate) fn take_whole<'k, const H: usize, const D: usize, K: Keys<'k>>(
+    verifier: &mut Verifier<'k, H, D, K>,
+    message: &[u8],
+) -> CoseVerdict
+    requires verifies { is_inspecting verifier.old ≡ false }
+    requires attached { is_detached verifier.old ≡ false }
+    requires fresh { HasTaken (to_verify (setting_in verifier.old)) [] [] verifier.old }
+    ensures verdict { result
+        ≡ verdict_read H D (setting_in verifier.old) result.payload_at message.now }
+    ensures payload { is_accepted result ≡ true → Covers message.now
+        (payload_read H D (setting_in verifier.old) message.now)
+        result.payload_at result.payload_length }
+    ensures input { sign_input_of verifier.new
+        ≡ input_read H D (setting_in verifier.old) message.now }
+    ensures signed { result.status ≡ 2
+        → has_point (input_read H D (setting_in verifier.old) message.now) ≡ true }
+{
+    // Laws that the proof cites.
+    settled_stays();
+    deciding_goes_last();
+    spelled_is_read();
+    authentication_decides();
+    signatures_are_of_sign1();
+    chosen_key_fits();
+    let fed = verifier.feed(message);
+    let (_fed, rest) = message.split_at(fed.used);
+    let mut rest = SliceIntake::new(rest, 1);
+    match verify::<1, H, D, _, _, _, _>(verifier, &mut rest, &mut Nothing, &Always) {
+        Ok(verdict) => numbers_of(verdict, message.len() as u64, fed.payload_from as u64),
+        // The intake and the sink never fail, and the verifier hasn't stopped.
+        Err(_) => unreachable!(),
+    }
+}
+
 /// The verdict on all bytes of a message, by a verifier that has taken none; and what the signature is verified with, if it has one.
 pub(crate) fn read_whole<'k, const H: usize, const D: usize, K: Keys<'k>>(
     verifier: &mut Verifier<'k, H, D, K>,
@@ -83,52 +120,9 @@ pub(crate) fn read_whole<'k, const H: usize, const D: usize, K: Keys<'k>>(
     ensures input { result.status ≡ 2
         → GivesAll (input_read H D (setting_in verifier.old) message.now) input.new }
 {
-    // Laws that the proof cites.
-    settled_stays();
-    deciding_goes_last();
-    spelled_is_read();
-    authentication_decides();
-    signatures_are_of_sign1();
-    chosen_key_fits();
-    let fed = verifier.feed(message);
+    let verdict = take_whole(verifier, message);
     give_input(verifier, input);
-    let (_fed, rest) = message.split_at(fed.used);
-    let mut rest = SliceIntake::new(rest, 1);
-    match verify::<1, H, D, _, _, _, _>(verifier, &mut rest, &mut Nothing, &Always) {
-        Ok(verdict) => numbers_of(verdict, message.len() as u64, fed.payload_from as u64),
-        // The intake and the sink never fail, and the verifier hasn't stopped.
-        Err(_) => unreachable!(),
-    }
-}
-
-/// The same as [`read_whole`], for a message whose signature nobody verifies: a token's, of which the caller gets the claims alone. What
-/// a signature is verified with isn't on the stack then.
-pub(crate) fn read_alone<'k, const H: usize, const D: usize, K: Keys<'k>>(
-    verifier: &mut Verifier<'k, H, D, K>,
-    message: &[u8],
-) -> CoseVerdict
-    requires verifies { is_inspecting verifier.old ≡ false }
-    requires attached { is_detached verifier.old ≡ false }
-    requires fresh { HasTaken (to_verify (setting_in verifier.old)) [] [] verifier.old }
-    ensures verdict { result
-        ≡ verdict_read H D (setting_in verifier.old) result.payload_at message.now }
-    ensures payload { is_accepted result ≡ true → Covers message.now
-        (payload_read H D (setting_in verifier.old) message.now)
-        result.payload_at result.payload_length }
-{
-    // Laws that the proof cites.
-    settled_stays();
-    deciding_goes_last();
-    spelled_is_read();
-    authentication_decides();
-    let fed = verifier.feed(message);
-    let (_fed, rest) = message.split_at(fed.used);
-    let mut rest = SliceIntake::new(rest, 1);
-    match verify::<1, H, D, _, _, _, _>(verifier, &mut rest, &mut Nothing, &Always) {
-        Ok(verdict) => numbers_of(verdict, message.len() as u64, fed.payload_from as u64),
-        // The intake and the sink never fail, and the verifier hasn't stopped.
-        Err(_) => unreachable!(),
-    }
+    verdict
 }
 
 /// Verifies a message in memory (RFC 9052 sections 4.4 and 6.3): the bytes are the message, and nothing follows it.

@@ -21,7 +21,7 @@ use crate::held::shared_table::CoseSharedTable;
 use crate::held::table::CoseTable;
 use crate::input::CoseSignInput;
 use crate::key_set::CoseKeySet;
-use crate::message::{read_alone, read_whole};
+use crate::message::{read_whole, take_whole};
 use crate::numbers::{CLOSED, CoseStatus, CoseVerdict, no_message, plain_status};
 use crate::permitted::everything;
 use crate::table::fill::fill;
@@ -120,7 +120,7 @@ fn verdict_on(content: &Option<TableKeys>, aad: &[u8], token: &[u8]) -> CoseVerd
     match context(content, aad, 0) {
         Ok(context) => {
             let mut verifier = Verifier::<HEADER, NESTING, &TableKeys>::new(context);
-            read_alone(&mut verifier, token)
+            take_whole(&mut verifier, token)
         }
         Err(status) => no_message(status),
     }

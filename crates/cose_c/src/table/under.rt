@@ -9,14 +9,14 @@ ghost use Rattle.cose_c.specs.Table.{table_settings};
 ghost use Rattle.cose_c.specs.TableUnder.{setting_by_terms, setting_in_table, setting_kept, setting_left, setting_of_table, table_numbers};
 
 use crate::admit::claims_after;
-use crate::cose_claims::{CoseClaims, no_claims};
+use crate::cose_claims::CoseClaims;
 use crate::held::shared_table::CoseSharedTable;
 use crate::held::table::{CoseTable, HeldTable};
 use crate::input::CoseSignInput;
 use crate::key_set::{CoseKeySet, no_key_set};
-use crate::message::{read_alone, read_whole};
+use crate::message::{read_whole, take_whole};
 use crate::numbers::{BAD_ARGUMENT, CLOSED, CoseStatus, CoseVerdict, no_message, plain_status};
-use crate::required::{CoseRequirements, required_by};
+use crate::required::CoseRequirements;
 use crate::stated::{CoseTerms, count_before_zero, is_known, labels_of, payload_limit, permission};
 use crate::table::fill::fill;
 use crate::table::kept::TableTerms;
@@ -127,7 +127,7 @@ fn verdict_kept(held: &HeldTable, token: &[u8]) -> CoseVerdict
     match context(held) {
         Ok(context) => {
             let mut verifier = Verifier::<HEADER, NESTING, &TableKeys>::new(context);
-            read_alone(&mut verifier, token)
+            take_whole(&mut verifier, token)
         }
         Err(status) => no_message(status),
     }
@@ -146,11 +146,6 @@ pub extern "C" fn cose_edge_table_admit(
         (required_stated requirements.entry.now) token.now claims.new }
     ensures same { table.new ≡ table.old }
 {
-    *claims = match required_by(requirements) {
-        Ok(required) => {
-            let verdict = verdict_kept(table.read(), token);
-            claims_after(verdict, token, NESTING, &required)
-        }
-        Err(status) => no_claims(status),
-    };
+    let verdict = verdict_kept(table.read(), token);
+    claims_after(verdict, token, NESTING, requirements, claims);
 }
