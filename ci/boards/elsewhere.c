@@ -1,6 +1,7 @@
 /*
- * A verifier for its size: a COSE_Mac0 that comes a byte at a time. With ELSEWHERE another part of the device has the hash and
- * the key, here one register; without it the library has both. bench/device_elsewhere builds it, and nothing runs it.
+ * A verifier for its size: a COSE_Mac0 that comes a byte at a time. With ELSEWHERE another part of the device has the
+ * hash and the key, here one register; without it the library has both. bench/device_elsewhere builds it, and nothing
+ * runs it.
  */
 #include "board.h"
 #define COSE_NO_SHA512

@@ -1,6 +1,6 @@
 /*
- * What bench/device_hmac counts: the HMAC of a MAC_structure (RFC 9052 section 6.3) by mbedTLS and a comparison with a tag, with
- * nothing that reads a message. It ends with status 0 where the tag is the right one and a changed one isn't.
+ * What bench/device_hmac counts: the HMAC of a MAC_structure (RFC 9052 section 6.3) by mbedTLS and a comparison with a
+ * tag, with nothing that reads a message. It ends with status 0 where the tag is the right one and a changed one isn't.
  */
 #include "board.h"
 #include "mbedtls/md.h"
@@ -31,7 +31,8 @@ static int is_good(const uint8_t *tag)
 {
     uint8_t computed[32];
     uint8_t difference = 0;
-    if (mbedtls_md_hmac(mbedtls_md_info_from_type(MBEDTLS_MD_SHA256), secret, sizeof secret, structure, sizeof structure, computed) != 0)
+    if (mbedtls_md_hmac(mbedtls_md_info_from_type(MBEDTLS_MD_SHA256), secret, sizeof secret, structure,
+                        sizeof structure, computed) != 0)
         return 0;
     for (size_t at = 0; at < sizeof computed; at++)
         difference |= (uint8_t)(computed[at] ^ tag[at]);

@@ -1,7 +1,7 @@
 /*
- * Opens a verifier under keys of each kind, where SHA-384 and SHA-512 are left out, and feeds it a message that names such an
- * algorithm where the keys do without. It ends with status 0 where each answer is the one that it has to be, and doesn't end
- * where a message gets to what is left out.
+ * Opens a verifier under keys of each kind, where SHA-384 and SHA-512 are left out, and feeds it a message that names
+ * such an algorithm where the keys do without. It ends with status 0 where each answer is the one that it has to be,
+ * and doesn't end where a message gets to what is left out.
  */
 #include "board.h"
 #define COSE_NO_SHA512
@@ -10,15 +10,16 @@
 static _Alignas(64) uint8_t block[4096];
 static int wrong;
 
-/* Symmetric keys: for any algorithm, for HMAC 256/256, 256/64, 384/384 and 512/512; two for any; one for 256/256 and one for any, with
- * an identifier each. */
+/* Symmetric keys: for any algorithm, for HMAC 256/256, 256/64, 384/384 and 512/512; two for any; one for 256/256 and
+ * one for any, with an identifier each. */
 static const uint8_t any[] = {0xa2, 1, 4, 0x20, 0x41, 'k'};
 static const uint8_t hmac_256[] = {0xa3, 1, 4, 3, 5, 0x20, 0x41, 'k'};
 static const uint8_t hmac_64[] = {0xa3, 1, 4, 3, 4, 0x20, 0x41, 'k'};
 static const uint8_t hmac_384[] = {0xa3, 1, 4, 3, 6, 0x20, 0x41, 'k'};
 static const uint8_t hmac_512[] = {0xa3, 1, 4, 3, 7, 0x20, 0x41, 'k'};
 static const uint8_t two[] = {0x82, 0xa3, 1, 4, 2, 0x41, 1, 0x20, 0x41, 'k', 0xa3, 1, 4, 2, 0x41, 2, 0x20, 0x41, 'l'};
-static const uint8_t both[] = {0x82, 0xa4, 1, 4, 2, 0x41, 1, 3, 5, 0x20, 0x41, 'k', 0xa3, 1, 4, 2, 0x41, 2, 0x20, 0x41, 'l'};
+static const uint8_t both[] = {0x82, 0xa4, 1, 4, 2, 0x41, 1, 3,    5,    0x20, 0x41,
+                               'k',  0xa3, 1, 4, 2, 0x41, 2, 0x20, 0x41, 'l'};
 /* What begins a key on a curve, whose coordinates are zeros: P-256, P-384 and P-521. */
 static uint8_t point[160];
 
@@ -29,7 +30,8 @@ static void judge(const char *what, int good)
     wrong |= !good;
 }
 
-/* Whether the verifier says what it needs under these keys, and where it does without refuses a message that names HMAC 512/512. */
+/* Whether the verifier says what it needs under these keys, and where it does without refuses a message that names HMAC
+ * 512/512. */
 static int needs(const uint8_t *keys, size_t length, int wanted)
 {
     static const uint8_t message[] = {0xd1, 0x84, 0x43, 0xa1, 1, 7, 0xa1, 4, 0x41, 2, 0x40, 0x58, 0x40};

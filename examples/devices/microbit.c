@@ -1,5 +1,5 @@
-/* A micro:bit: nRF51822, with a Cortex-M0, 256 KB of flash and 16 KB of RAM. Start-up, the serial line over USB, and the slot for an
- * image, in the upper half of the flash; its last page says how long the image is. */
+/* A micro:bit: nRF51822, with a Cortex-M0, 256 KB of flash and 16 KB of RAM. Start-up, the serial line over USB, and
+ * the slot for an image, in the upper half of the flash; its last page says how long the image is. */
 #include "board.h"
 
 #define REGISTER(at) (*(volatile uint32_t *)(at))
@@ -134,5 +134,20 @@ static void fault(void)
 }
 
 __attribute__((section(".vectors"), used)) static void (*const vectors[])(void) = {
-    (void (*)(void))stack_top_, reset, fault, fault, fault, fault, fault, fault, fault, fault, fault, fault, fault, fault, fault, fault,
+    (void (*)(void))stack_top_,
+    reset,
+    fault,
+    fault,
+    fault,
+    fault,
+    fault,
+    fault,
+    fault,
+    fault,
+    fault,
+    fault,
+    fault,
+    fault,
+    fault,
+    fault,
 };

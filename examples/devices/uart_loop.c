@@ -1,5 +1,5 @@
-/* A board on a serial line: takes a COSE_Mac0 a byte at a time, and answers each with a line. Whoever sends waits for that line
- * before the next message: after a refusal nothing else says where one begins. */
+/* A board on a serial line: takes a COSE_Mac0 a byte at a time, and answers each with a line. Whoever sends waits for
+ * that line before the next message: after a refusal nothing else says where one begins. */
 #include "board.h"
 /* The key names HMAC 256/256, so no other hash function is needed. */
 #define COSE_NO_SHA512
@@ -22,8 +22,8 @@ static void print(const char *text)
     line_write(text, length);
 }
 
-/* Prints a number, by subtraction: a Cortex-M0 has no division. Places that don't have 32 bits are those of messages that nobody sends
- * to a board. */
+/* Prints a number, by subtraction: a Cortex-M0 has no division. Places that don't have 32 bits are those of messages
+ * that nobody sends to a board. */
 static void print_number(uint32_t number)
 {
     static const uint32_t powers[] = {1000000000, 100000000, 10000000, 1000000, 100000, 10000, 1000, 100, 10, 1};

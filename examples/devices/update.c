@@ -1,6 +1,6 @@
-/* A firmware update: a COSE_Mac0 whose payload is the image comes over the serial line in blocks. A block is its number of bytes,
- * from 1 to 64, and these bytes; 0 ends the message. The board answers each block with a character: . where it wants the next one, A
- * where the image is authentic, and R where it is not.
+/* A firmware update: a COSE_Mac0 whose payload is the image comes over the serial line in blocks. A block is its number
+ * of bytes, from 1 to 64, and these bytes; 0 ends the message. The board answers each block with a character: . where
+ * it wants the next one, A where the image is authentic, and R where it is not.
  *
  * The image goes to the slot as it comes, and the slot says that it has one only once the message is authentic. */
 #include "board.h"
