@@ -1,0 +1,138 @@
+#!/usr/bin/env python3
+"""Tests of ci/beside_gate, with the runner of Python's library: in a tree whose scripts only say that they were run."""
+import pathlib
+import shutil
+import subprocess
+import sys
+import tempfile
+import time
+import unittest
+
+sys.dont_write_bytecode = True
+HERE = pathlib.Path(__file__).resolve().parent
+CRATES = {"low": "low:", "mid": "mid: low", "cose_c": "cose_c staticlib: low kit", "top": "top: mid low  # no edits"}
+EDITS = {"low": 1, "mid": 2, "cose_c": 3}
+SCRIPTS = {
+    # the last word is the crate; a crate that has a file `passes` has an edit that isn't refused
+    "ci/wrong_bodies": """for crate; do :; done
+echo "tries $crate" >>"$LOG"
+count=$(ls "crates/$crate/wrong-bodies" | wc -l)
+[ ! -e "crates/$crate/passes" ] || {
+    echo "wrong_bodies: $((count - 1)) of $count edits are refused, after 0 minutes"
+    exit 1
+}
+echo "wrong_bodies: $count of $count edits are refused, after 0 minutes"
+""",
+    "ci/edge_archive": """[ -e crates/low/out/rlib/low.rlib/format ]
+echo "archives $*" >>"$LOG"
+mkdir -p crates/cose_c/out/incremental
+echo kept >crates/cose_c/out/incremental/kept
+echo archive >crates/cose_c/out/libcose_c.a
+""",
+    "ci/web_module": "echo module >bindings/js/cose.wasm\necho page >web/cose_wasm.js\n",
+    "packaging/proof_record": 'echo "record of $1" >"$2.proof"\n',
+}
+WAIT = 20
+
+
+class Beside(unittest.TestCase):
+    def setUp(self):
+        self.top = pathlib.Path(tempfile.mkdtemp(prefix="test-beside-"))
+        self.addCleanup(shutil.rmtree, self.top)
+        (self.top / "crates.txt").write_text("\n".join(CRATES.values()))
+        for crate in CRATES:
+            folder = self.top / "crates" / crate
+            (folder / "src").mkdir(parents=True)
+            (folder / "src" / "lib.rt").write_text("//! A crate.\n")
+            (folder / "wrong-bodies").mkdir()
+            for number in range(EDITS.get(crate, 0)):
+                (folder / "wrong-bodies" / f"{number}.edit").write_text("")
+        for folder in ("ci", "packaging", "bindings/js", "web"):
+            (self.top / folder).mkdir(parents=True)
+        for path, text in SCRIPTS.items():
+            script = self.top / path
+            script.write_text("#!/bin/sh\nset -eu\n" + text)
+            script.chmod(0o755)
+        shutil.copy2(HERE / "beside_gate", self.top / "ci")
+        self.told, self.log = self.top / "told", self.top / "log"
+        self.told.mkdir()
+        self.log.touch()
+
+    def begin(self, *crates, without=()):
+        left_out = [word for it in without for word in ("--without", it)]
+        command = [self.top / "ci" / "beside_gate", "--lanes", "2", *left_out, self.told, *crates]
+        self.process = subprocess.Popen(command, stdout=subprocess.PIPE, text=True, env={"PATH": "/usr/bin:/bin", "LOG": str(self.log)})
+        self.addCleanup(self.process.kill)
+        self.addCleanup(self.process.stdout.close)
+
+    def tell(self, *lines):
+        for line in lines:
+            rlib = self.top / "crates" / line / "out" / "rlib" / f"{line}.rlib"
+            if line in CRATES:
+                rlib.mkdir(parents=True)
+                (rlib / "format").touch()
+            with open(self.told / "proved", "a") as file:
+                print(line, file=file)
+
+    def end(self):
+        said, _ = self.process.communicate(timeout=WAIT)
+        return self.process.returncode, said.splitlines()[-1].partition(", after")[0]
+
+    def wait_for(self, line):
+        for _ in range(WAIT * 10):
+            if line in self.log.read_text().splitlines():
+                return
+            time.sleep(0.1)
+        self.fail(f"nothing said '{line}'")
+
+    def test_a_task_begins_when_the_libraries_below_its_crate_are_proved(self):
+        self.begin()
+        self.wait_for("tries low")
+        self.assertEqual(self.log.read_text(), "tries low\n")
+        self.tell("low")
+        self.wait_for("tries mid")
+        self.wait_for("tries cose_c")
+        said = self.log.read_text().splitlines()
+        self.assertLess(said.index("archives x86_64 thumbv7m wasm32"), said.index("tries cose_c"))
+        self.tell("mid", "cose_c", "top", "ended")
+        self.assertEqual(self.end(), (0, "beside_gate: 6 of 6 wrong bodies are refused"))
+
+    def test_what_the_archives_leave_is_there_when_the_gate_has_ended(self):
+        self.begin("cose_c")
+        self.tell("low")
+        self.wait_for("tries cose_c")
+        time.sleep(1)
+        out = self.top / "crates" / "cose_c" / "out"
+        self.assertFalse(out.exists() or (self.told / "archives").exists())
+        self.tell("ended")
+        self.assertEqual(self.end(), (0, "beside_gate: 3 of 3 wrong bodies are refused"))
+        self.assertTrue((self.told / "archives").exists())
+        left = {"libcose_c.a": "archive", "libcose_c.a.proof": "record of cose_c", "incremental/kept": "kept"}
+        self.assertEqual({it: (out / it).read_text().strip() for it in left}, left)
+        self.assertEqual((self.top / "bindings" / "js" / "cose.wasm").read_text(), "module\n")
+        self.assertEqual((self.top / "web" / "cose_wasm.js").read_text(), "page\n")
+
+    def test_an_edit_that_is_not_refused_is_found(self):
+        (self.top / "crates" / "mid" / "passes").touch()
+        self.begin()
+        self.tell("low", "mid", "ended")
+        self.assertEqual(self.end(), (1, "beside_gate: 5 of 6 wrong bodies are refused"))
+
+    def test_crates_can_be_left_out(self):
+        self.begin(without=("mid", "low"))
+        self.tell("low", "ended")
+        self.assertEqual(self.end(), (0, "beside_gate: 3 of 3 wrong bodies are refused"))
+
+    def test_what_is_not_proved_is_not_done(self):
+        self.begin("mid")
+        self.tell("ended")
+        self.assertEqual(self.end(), (2, "beside_gate: not done: wrong bodies of mid"))
+
+    def test_it_ends_with_a_gate_that_fails(self):
+        self.begin()
+        self.tell("ended failed")
+        self.assertEqual(self.end(), (2, "beside_gate: the gate has failed, so what is beside it ends"))
+
+
+if __name__ == "__main__":
+    unittest.main(verbosity=0)
