@@ -58,9 +58,8 @@ class Beside(unittest.TestCase):
         self.told.mkdir()
         self.log.touch()
 
-    def begin(self, *crates, without=()):
-        left_out = [word for it in without for word in ("--without", it)]
-        command = [self.top / "ci" / "beside_gate", "--lanes", "2", *left_out, self.told, *crates]
+    def begin(self, *crates):
+        command = [self.top / "ci" / "beside_gate", "--lanes", "2", self.told, *crates]
         self.process = subprocess.Popen(command, stdout=subprocess.PIPE, text=True, env={"PATH": "/usr/bin:/bin", "LOG": str(self.log)})
         self.addCleanup(self.process.kill)
         self.addCleanup(self.process.stdout.close)
@@ -117,11 +116,6 @@ class Beside(unittest.TestCase):
         self.begin()
         self.tell("low", "mid", "ended")
         self.assertEqual(self.end(), (1, "beside_gate: 5 of 6 wrong bodies are refused"))
-
-    def test_crates_can_be_left_out(self):
-        self.begin(without=("mid", "low"))
-        self.tell("low", "ended")
-        self.assertEqual(self.end(), (0, "beside_gate: 3 of 3 wrong bodies are refused"))
 
     def test_what_is_not_proved_is_not_done(self):
         self.begin("mid")
