@@ -13,6 +13,8 @@ docs/REASONS.md. The ends are those that a wrong program would most easily miss:
 """
 import functools
 import json
+import multiprocessing
+import os
 import pathlib
 import sys
 import types
@@ -22,6 +24,7 @@ import row_reading
 
 CI = pathlib.Path(__file__).resolve().parent
 ROWS = CI.parent / "rows"
+ROWS_AND_ENDS = ()
 READING, PROGRAM = "second_reading", "second_program"
 SOURCES = {name: (CI / f"{name}.py").read_text() for name in (READING, PROGRAM)}
 
@@ -141,17 +144,31 @@ def differing(rows, modules, subjects):
     return None
 
 
+def begin(*given):
+    """What each process that looks at ends begins with: all rows and all ends."""
+    global ROWS_AND_ENDS
+    ROWS_AND_ENDS = given
+
+
+def has_row(number):
+    """Whether a row has the end of this number."""
+    rows, ends = ROWS_AND_ENDS
+    end = ends[number]
+    modules = copies(end.source, end.edits)
+    for module in modules:
+        module.turned = end.turned
+    # what it kept is of the rule before
+    modules[0].read_key_set.cache_clear()
+    return differing(rows, modules, end.subjects) is not None
+
+
 def without_rows(ends):
-    """The ends that no row has; first of all each row has to be as the second reading says."""
+    """The ends that no row has; first of all each row has to be as the second reading says. The processors share the ends."""
     rows = all_rows()
     fault = differing(rows, copies(), sorted(rows))
     if fault:
         sys.exit(f"rows: the second reading says otherwise: {fault}")
-    for end in ends:
-        modules = copies(end.source, end.edits)
-        for module in modules:
-            module.turned = end.turned
-        # what it kept is of the rule before
-        modules[0].read_key_set.cache_clear()
-        if not differing(rows, modules, end.subjects):
-            yield end
+    # (a process that is forked has the ends, whose functions couldn't be sent to it)
+    with multiprocessing.get_context("fork").Pool(len(os.sched_getaffinity(0)), begin, (rows, ends)) as processes:
+        found = processes.map(has_row, range(len(ends)), chunksize=4)
+    return [end for end, is_there in zip(ends, found) if not is_there]
