@@ -11,7 +11,7 @@ from typing import NamedTuple
 
 # a function, an impl block, a trait, a type and a constant, in the layout that `rt fmt` writes
 FUNCTION = re.compile(r'( *)(?:pub(?:\([^)]*\))? )?(?:const )?(?:unsafe )?(?:extern "C" )?fn (\w+)')
-IMPL = re.compile(r"impl(?:<.*?>)? (?:([\w:]+)(?:<.*>)? for )?&?(?:'\w+ )?(?:mut )?(\w+)")
+IMPL = re.compile(r"impl(?:<.*?>)? (?:([\w:]+)(?:<(.*)>)? for )?(&?)(?:'\w+ )?(?:mut )?(\w+)")
 TRAIT = re.compile(r"(?:pub(?:\([^)]*\))? )?trait (\w+)")
 TYPE = re.compile(r"^(?:pub(?:\([^)]*\))? )?(?:struct|enum) (\w+)", re.M)
 CONSTANT = re.compile(r"^ *(?:pub(?:\([^)]*\))? )?(?:const|static) (\w+): [^;]*;", re.M)
@@ -106,13 +106,22 @@ def block_at(lines, number):
     for line in reversed(lines[:number]):
         found = IMPL.match(line)
         if found:
-            return found[2], (found[1] or "").rpartition("::")[2]
+            return named_as(*found.groups())
         found = TRAIT.match(line)
         if found:
             return found[1], ""
         if line == "}":
             break
     return None, ""
+
+
+def named_as(trait, arguments, mark, block):
+    """What a check calls a type and the trait that it meets: a reference is marked, and the trait's arguments that are types follow it."""
+    if not trait:
+        return block, ""
+    types = [it.strip() for it in (arguments or "").split(",")]
+    names = [it.rpartition("::")[2] for it in types if re.fullmatch(r"[\w:]+", it)]
+    return ("Ref" if mark else "") + block, trait.rpartition("::")[2] + "".join(names)
 
 
 def is_in_body(text, place):

@@ -73,6 +73,18 @@ class Functions(unittest.TestCase):
     def test_the_path_of_a_check(self):
         self.assertEqual(at("self.a + 1").path(), "a::b::ReaderTake::take")
         self.assertEqual(at("a + 0").path(), "a::b::first")
+
+    def test_the_path_of_a_method_of_a_trait(self):
+        for impl, path in (
+            ("impl From<AllocError> for Fault", "FaultFromAllocError::make"),
+            ("impl<'t, 'a, const N: usize> Keys<'a> for &'t Table<'a, N>", "RefTableKeys::make"),
+            ("impl<R: Files<File = File> + Eprint> NewFiles for Noted<'_, R>", "NotedNewFiles::make"),
+            ("impl fmt::Display for Line", "LineDisplay::make"),
+        ):
+            text = impl + " {\n    fn make() {\n        7\n    }\n}\n"
+            made = function_at("src/a.rt", text, text.index("7"))
+            self.assertEqual(made.path(), f"a::{path}")
+            self.assertTrue(made.has(f"a::{path}"))
         self.assertEqual(function_at("src/main.rt", SOURCE, SOURCE.index("        3")).path(), "Give::give")
 
     def test_a_method_is_of_the_module_of_its_type(self):
