@@ -2,6 +2,7 @@
 """Tests of ci/beside_gate, with the runner of Python's library: in a tree whose scripts only say that they were run."""
 import pathlib
 import shutil
+import signal
 import subprocess
 import sys
 import tempfile
@@ -13,9 +14,15 @@ HERE = pathlib.Path(__file__).resolve().parent
 CRATES = {"low": "low:", "mid": "mid: low", "cose_c": "cose_c staticlib: low kit", "top": "top: mid low  # no edits"}
 EDITS = {"low": 1, "mid": 2, "cose_c": 3}
 SCRIPTS = {
-    # the last word is the crate; a crate that has a file `passes` has an edit that isn't refused
+    # the last word is the crate; a crate that has a file `passes` has an edit that isn't refused, one that has `waits` takes a minute, whatever it is sent
     "ci/wrong_bodies": """for crate; do :; done
 echo "tries $crate" >>"$LOG"
+[ ! -e "crates/$crate/waits" ] || {
+    trap '' TERM
+    sleep 60 &
+    echo "$!" >"$LOG.waits"
+    wait
+}
 count=$(ls "crates/$crate/wrong-bodies" | wc -l)
 [ ! -e "crates/$crate/passes" ] || {
     echo "wrong_bodies: $((count - 1)) of $count edits are refused, after 0 minutes"
@@ -121,6 +128,22 @@ class Beside(unittest.TestCase):
         self.begin("mid")
         self.tell("ended")
         self.assertEqual(self.end(), (2, "beside_gate: not done: wrong bodies of mid"))
+
+    def test_signals_leave_no_process(self):
+        (self.top / "crates" / "low" / "waits").touch()
+        self.begin()
+        self.wait_for("tries low")
+        waits = pathlib.Path(f"{self.log}.waits")
+        while not (waits.exists() and waits.read_text()):
+            time.sleep(0.1)
+        for number in (signal.SIGTERM, signal.SIGTERM, signal.SIGINT):
+            self.process.send_signal(number)
+            time.sleep(0.1)
+        self.process.communicate(timeout=WAIT)
+        self.assertEqual(self.process.returncode, 128 + signal.SIGTERM)
+        stat = pathlib.Path("/proc", waits.read_text().strip(), "stat")
+        # (one that has ended stays until its parent asks for its status)
+        self.assertTrue(not stat.exists() or stat.read_text().rpartition(")")[2].split()[0] == "Z", stat)
 
     def test_it_ends_with_a_gate_that_fails(self):
         self.begin()
