@@ -73,6 +73,7 @@ class Functions(unittest.TestCase):
     def test_the_path_of_a_check(self):
         self.assertEqual(at("self.a + 1").path(), "a::b::ReaderTake::take")
         self.assertEqual(at("a + 0").path(), "a::b::first")
+        self.assertEqual(function_at("src/main.rt", SOURCE, SOURCE.index("        3")).path(), "Give::give")
 
     def test_the_path_of_a_method_of_a_trait(self):
         for impl, path in (
@@ -85,7 +86,6 @@ class Functions(unittest.TestCase):
             made = function_at("src/a.rt", text, text.index("7"))
             self.assertEqual(made.path(), f"a::{path}")
             self.assertTrue(made.has(f"a::{path}"))
-        self.assertEqual(function_at("src/main.rt", SOURCE, SOURCE.index("        3")).path(), "Give::give")
 
     def test_a_method_is_of_the_module_of_its_type(self):
         types = {"Reader": ["a"], "Twice": ["a", "c"]}

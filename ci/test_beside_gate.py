@@ -14,7 +14,8 @@ HERE = pathlib.Path(__file__).resolve().parent
 CRATES = {"low": "low:", "mid": "mid: low", "cose_c": "cose_c staticlib: low kit", "top": "top: mid low  # no edits"}
 EDITS = {"low": 1, "mid": 2, "cose_c": 3}
 SCRIPTS = {
-    # the last word is the crate; a crate that has a file `passes` has an edit that isn't refused, one that has `waits` takes a minute, whatever it is sent
+    # the last word is the crate; a crate that has a file `passes` has an edit that isn't refused, and one that has `waits` takes a
+    # minute, whatever it is sent
     "ci/wrong_bodies": """for crate; do :; done
 echo "tries $crate" >>"$LOG"
 [ ! -e "crates/$crate/waits" ] || {
