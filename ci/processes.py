@@ -62,8 +62,8 @@ class Checks:
         self.checks = {}
 
     def sample(self, root):
-        """Adds what the processes have used, and returns the parts that checks are running for."""
-        found, parts = running(), set()
+        """Adds what the processes have used, and returns the parts that checks are running for, with the numbers of their processes."""
+        found, parts = running(), {}
         for number in below(root, found):
             key = number, found[number].start
             if key in self.checks:
@@ -75,8 +75,9 @@ class Checks:
             # (a check works in copies of itself, too)
             is_copy = parent in found and (parent, found[parent].start) in self.checks
             if part and not is_copy:
-                self.checks[key] = part, sum(found[it].seconds for it in below(number, found))
-                parts.add(part)
+                copies = below(number, found)
+                self.checks[key] = part, sum(found[it].seconds for it in copies)
+                parts.setdefault(part, []).extend(copies)
         return parts
 
     def seconds(self):

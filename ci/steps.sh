@@ -35,5 +35,5 @@ side_by_side() { # NAME.., and then what they print, in this order; it fails whe
 
 of_the_tree() { # what needs neither a proof nor the program
     side_by_side format documents edge_declarations edge_tables option_tables "rows --form" "rows --ends" first_command test_batches.py \
-        test_beside_gate.py
+        test_beside_gate.py test_proved_work.py
 }

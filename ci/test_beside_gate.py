@@ -14,7 +14,7 @@ HERE = pathlib.Path(__file__).resolve().parent
 CRATES = {"low": "low:", "mid": "mid: low", "cose_c": "cose_c staticlib: low kit", "top": "top: mid low  # no edits"}
 EDITS = {"low": 1, "mid": 2, "cose_c": 3}
 SCRIPTS = {
-    # the last word is the crate; a crate that has a file `passes` has an edit that isn't refused, and one that has `waits` takes a
+    # the last word is the crate, and --gated has what the gate has proved; a crate that has a file `passes` has an edit that isn't refused, and one that has `waits` takes a
     # minute, whatever it is sent
     "ci/wrong_bodies": """for crate; do :; done
 echo "tries $crate" >>"$LOG"
@@ -33,7 +33,7 @@ echo "wrong_bodies: $count of $count edits are refused, after 0 minutes"
 """,
     "ci/edge_archive": """[ -e crates/low/out/rlib/low.rlib/format ]
 echo "archives $*" >>"$LOG"
-mkdir -p crates/cose_c/out/incremental
+[ "$(cat crates/cose_c/out/incremental/build/module)" = proved ]
 echo kept >crates/cose_c/out/incremental/kept
 echo archive >crates/cose_c/out/libcose_c.a
 """,
@@ -75,11 +75,18 @@ class Beside(unittest.TestCase):
     def tell(self, *lines):
         for line in lines:
             rlib = self.top / "crates" / line / "out" / "rlib" / f"{line}.rlib"
-            if line in CRATES:
+            if line in CRATES and "staticlib" not in CRATES[line]:
                 rlib.mkdir(parents=True)
                 (rlib / "format").touch()
             with open(self.told / "proved", "a") as file:
                 print(line, file=file)
+
+    def prove(self, crate):
+        """Tells that the crate is proved, and leaves what its check has proved."""
+        work = self.told / "work" / crate / "build"
+        work.mkdir(parents=True)
+        (work / "module").write_text("proved\n")
+        self.tell(crate)
 
     def end(self):
         said, _ = self.process.communicate(timeout=WAIT)
@@ -98,15 +105,19 @@ class Beside(unittest.TestCase):
         self.assertEqual(self.log.read_text(), "tries low\n")
         self.tell("low")
         self.wait_for("tries mid")
+        time.sleep(1)
+        self.assertEqual(self.log.read_text(), "tries low\ntries mid\n")
+        self.prove("cose_c")
         self.wait_for("tries cose_c")
         said = self.log.read_text().splitlines()
         self.assertLess(said.index("archives x86_64 thumbv7m wasm32"), said.index("tries cose_c"))
-        self.tell("mid", "cose_c", "top", "ended")
+        self.tell("mid", "top", "ended")
         self.assertEqual(self.end(), (0, "beside_gate: 6 of 6 wrong bodies are refused"))
 
     def test_what_the_archives_leave_is_there_when_the_gate_has_ended(self):
         self.begin("cose_c")
         self.tell("low")
+        self.prove("cose_c")
         self.wait_for("tries cose_c")
         time.sleep(1)
         out = self.top / "crates" / "cose_c" / "out"
@@ -119,8 +130,17 @@ class Beside(unittest.TestCase):
         self.assertEqual((self.top / "bindings" / "js" / "cose.wasm").read_text(), "module\n")
         self.assertEqual((self.top / "web" / "cose_wasm.js").read_text(), "page\n")
 
+    def test_a_crate_that_is_proved_comes_first(self):
+        self.tell("low")
+        self.begin("low", "mid")
+        self.wait_for("tries mid")
+        self.assertEqual(self.log.read_text(), "tries low\ntries mid\n")
+        self.tell("ended")
+        self.assertEqual(self.end(), (0, "beside_gate: 3 of 3 wrong bodies are refused"))
+
     def test_an_edit_that_is_not_refused_is_found(self):
         (self.top / "crates" / "mid" / "passes").touch()
+        self.prove("cose_c")
         self.begin()
         self.tell("low", "mid", "ended")
         self.assertEqual(self.end(), (1, "beside_gate: 5 of 6 wrong bodies are refused"))
