@@ -14,17 +14,17 @@ HERE = pathlib.Path(__file__).resolve().parent
 CRATES = {"low": "low:", "mid": "mid: low", "cose_c": "cose_c staticlib: low kit", "top": "top: mid low  # no edits"}
 EDITS = {"low": 1, "mid": 2, "cose_c": 3}
 SCRIPTS = {
-    # the last word is the crate, and --gated has what the gate has proved; a crate that has a file `passes` has an edit that isn't refused, and one that has `waits` takes a
+    # the fourth word is the part, and the last one the crate; a crate that has a file `passes` has an edit that isn't refused, and one that has `waits` takes a
     # minute, whatever it is sent
     "ci/wrong_bodies": """for crate; do :; done
-echo "tries $crate" >>"$LOG"
+echo "tries $crate $4" >>"$LOG"
 [ ! -e "crates/$crate/waits" ] || {
     trap '' TERM
     sleep 60 &
     echo "$!" >"$LOG.waits"
     wait
 }
-count=$(ls "crates/$crate/wrong-bodies" | wc -l)
+count=$(ls "crates/$crate/wrong-bodies" | awk "NR % ${4#*/} == ${4%/*} % ${4#*/}" | wc -l)
 [ ! -e "crates/$crate/passes" ] || {
     echo "wrong_bodies: $((count - 1)) of $count edits are refused, after 0 minutes"
     exit 1
@@ -101,16 +101,16 @@ class Beside(unittest.TestCase):
 
     def test_a_task_begins_when_the_libraries_below_its_crate_are_proved(self):
         self.begin()
-        self.wait_for("tries low")
-        self.assertEqual(self.log.read_text(), "tries low\n")
+        self.wait_for("tries low 1/1")
+        self.assertEqual(self.log.read_text(), "tries low 1/1\n")
         self.tell("low")
-        self.wait_for("tries mid")
+        self.wait_for("tries mid 2/2")
         time.sleep(1)
-        self.assertEqual(self.log.read_text(), "tries low\ntries mid\n")
+        self.assertEqual(self.log.read_text(), "tries low 1/1\ntries mid 1/2\ntries mid 2/2\n")
         self.prove("cose_c")
-        self.wait_for("tries cose_c")
+        self.wait_for("tries cose_c 1/1")
         said = self.log.read_text().splitlines()
-        self.assertLess(said.index("archives x86_64 thumbv7m wasm32"), said.index("tries cose_c"))
+        self.assertLess(said.index("archives x86_64 thumbv7m wasm32"), said.index("tries cose_c 1/1"))
         self.tell("mid", "top", "ended")
         self.assertEqual(self.end(), (0, "beside_gate: 6 of 6 wrong bodies are refused"))
 
@@ -118,7 +118,7 @@ class Beside(unittest.TestCase):
         self.begin("cose_c")
         self.tell("low")
         self.prove("cose_c")
-        self.wait_for("tries cose_c")
+        self.wait_for("tries cose_c 1/1")
         time.sleep(1)
         out = self.top / "crates" / "cose_c" / "out"
         self.assertFalse(out.exists() or (self.told / "archives").exists())
@@ -133,8 +133,8 @@ class Beside(unittest.TestCase):
     def test_a_crate_that_is_proved_comes_first(self):
         self.tell("low")
         self.begin("low", "mid")
-        self.wait_for("tries mid")
-        self.assertEqual(self.log.read_text(), "tries low\ntries mid\n")
+        self.wait_for("tries mid 1/2")
+        self.assertEqual(self.log.read_text(), "tries low 1/1\ntries mid 1/2\n")
         self.tell("ended")
         self.assertEqual(self.end(), (0, "beside_gate: 3 of 3 wrong bodies are refused"))
 
@@ -143,17 +143,17 @@ class Beside(unittest.TestCase):
         self.prove("cose_c")
         self.begin()
         self.tell("low", "mid", "ended")
-        self.assertEqual(self.end(), (1, "beside_gate: 5 of 6 wrong bodies are refused"))
+        self.assertEqual(self.end(), (1, "beside_gate: 4 of 6 wrong bodies are refused"))
 
     def test_what_is_not_proved_is_not_done(self):
         self.begin("mid")
         self.tell("ended")
-        self.assertEqual(self.end(), (2, "beside_gate: not done: wrong bodies of mid"))
+        self.assertEqual(self.end(), (2, "beside_gate: not done: wrong bodies of mid, part 1 of 2, wrong bodies of mid, part 2 of 2"))
 
     def test_signals_leave_no_process(self):
         (self.top / "crates" / "low" / "waits").touch()
         self.begin()
-        self.wait_for("tries low")
+        self.wait_for("tries low 1/1")
         waits = pathlib.Path(f"{self.log}.waits")
         while not (waits.exists() and waits.read_text()):
             time.sleep(0.1)
