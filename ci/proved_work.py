@@ -5,6 +5,7 @@ toolchain holds each module that it has checked in a file of a temporary folder.
 the form that a check takes by `--incremental`, and stay after the check. What the gate's own checks read isn't touched, and its
 verdicts rest on nothing of this. Where a toolchain does otherwise nothing is kept, and who looks for it proves the same again.
 """
+import collections
 import contextlib
 import os
 import pathlib
@@ -13,8 +14,9 @@ import tempfile
 
 # the temporary folder of a check, by the number of its process
 ROOM = "rattle-logic-built-locked-{}-0"
-# a module that is checked
+# a module that is checked, and where one stands there: by its name, or by a sum where that is too long
 MODULE = ".oantt"
+PARTS = ("", "long")
 
 
 def build_name():
@@ -44,20 +46,25 @@ class ProvedWork:
     """Folders with the work of the gate's checks, one for each crate that is proved."""
 
     def __init__(self, folder):
-        self.folder, self.build, self.linked = folder, build_name(), set()
+        self.folder, self.build, self.linked = folder, build_name(), collections.defaultdict(set)
 
     def take(self, crate, numbers):
         """Links what the crate's check, which is one of these processes, has proved so far."""
-        for number in numbers if self.build else ():
-            room = os.path.join(tempfile.gettempdir(), ROOM.format(number))
-            for at, _, names in os.walk(room):
-                there = self.folder / f".{crate}" / self.build / os.path.relpath(at, room)
-                there.mkdir(parents=True, exist_ok=True)
-                for name in names:
-                    if name.endswith(MODULE) and (at, name) not in self.linked:
-                        with contextlib.suppress(OSError):  # (the check may end meanwhile)
-                            os.link(os.path.join(at, name), there / name)
-                            self.linked.add((at, name))
+        rooms = [pathlib.Path(tempfile.gettempdir(), ROOM.format(number)) for number in numbers if self.build]
+        for room in rooms:
+            for part in PARTS:
+                with contextlib.suppress(OSError):  # (no such folder, or the check ends meanwhile)
+                    self.link(room / part, self.folder / f".{crate}" / self.build / part)
+
+    def link(self, one, other):
+        """Links the modules of one folder that have no link yet to another."""
+        linked = self.linked[one]
+        new = [name for name in set(os.listdir(one)) - linked if name.endswith(MODULE)]
+        other.mkdir(parents=True, exist_ok=True)
+        for name in new:
+            with contextlib.suppress(FileExistsError):  # (a check that was killed is run once more)
+                os.link(one / name, other / name)
+            linked.add(name)
 
     def end(self, crate):
         """Has the work of a crate that is proved stand under its name."""
