@@ -29,7 +29,7 @@ def build_name():
 
 
 def link_over(one, other):
-    """Gives the files below one folder a second name below another, in place of what has that name there."""
+    """Gives the files below a folder a second name below another one, in place of what has that name there."""
     for at, _, names in os.walk(one):
         there = pathlib.Path(other, os.path.relpath(at, one))
         there.mkdir(parents=True, exist_ok=True)
