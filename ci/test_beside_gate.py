@@ -100,19 +100,19 @@ class Beside(unittest.TestCase):
             time.sleep(0.1)
         self.fail(f"nothing said '{line}'")
 
-    def test_a_task_begins_when_the_libraries_below_its_crate_are_proved(self):
+    def test_a_task_begins_when_its_crate_is_proved(self):
         self.begin()
-        self.wait_for("tries low 1/1")
-        self.assertEqual(self.log.read_text(), "tries low 1/1\n")
         self.tell("low")
-        self.wait_for("tries mid 2/2")
+        self.wait_for("tries low 1/1")
         time.sleep(1)
-        self.assertEqual(self.log.read_text(), "tries low 1/1\ntries mid 1/2\ntries mid 2/2\n")
+        self.assertEqual(self.log.read_text(), "tries low 1/1\n")
+        self.tell("mid")
+        self.wait_for("tries mid 2/2")
         self.prove("cose_c")
         self.wait_for("tries cose_c 2/2")
         said = self.log.read_text().splitlines()
         self.assertLess(said.index("archives x86_64 thumbv7m wasm32"), said.index("tries cose_c 1/2"))
-        self.tell("mid", "top", "ended")
+        self.tell("top", "ended")
         self.assertEqual(self.end(), (0, "beside_gate: 6 of 6 wrong bodies are refused"))
 
     def test_what_the_archives_leave_is_there_when_the_gate_has_ended(self):
@@ -131,14 +131,6 @@ class Beside(unittest.TestCase):
         self.assertEqual((self.top / "bindings" / "js" / "cose.wasm").read_text(), "module\n")
         self.assertEqual((self.top / "web" / "cose_wasm.js").read_text(), "page\n")
 
-    def test_a_crate_that_is_proved_comes_first(self):
-        self.tell("low")
-        self.begin("low", "mid")
-        self.wait_for("tries mid 1/2")
-        self.assertEqual(self.log.read_text(), "tries low 1/1\ntries mid 1/2\n")
-        self.tell("ended")
-        self.assertEqual(self.end(), (0, "beside_gate: 3 of 3 wrong bodies are refused"))
-
     def test_an_edit_that_is_not_refused_is_found(self):
         (self.top / "crates" / "mid" / "passes").touch()
         self.prove("cose_c")
@@ -154,6 +146,7 @@ class Beside(unittest.TestCase):
     def test_signals_leave_no_process(self):
         (self.top / "crates" / "low" / "waits").touch()
         self.begin()
+        self.tell("low")
         self.wait_for("tries low 1/1")
         waits = pathlib.Path(f"{self.log}.waits")
         while not (waits.exists() and waits.read_text()):
