@@ -84,7 +84,7 @@ class Beside(unittest.TestCase):
 
     def prove(self, crate):
         """Tells that the crate is proved, and leaves what its check has proved."""
-        work = self.told / "work" / crate / "build"
+        work = self.told / "proofs" / crate / "build"
         work.mkdir(parents=True)
         (work / "module").write_text("proved\n")
         self.tell(crate)

@@ -20,7 +20,7 @@ class Work(unittest.TestCase):
         tempfile.tempdir = str(self.top)
         self.room = self.top / proved_work.ROOM.format(7)
         (self.room / "long").mkdir(parents=True)
-        self.work = proved_work.ProvedWork(self.top / "work")
+        self.work = proved_work.ProvedWork(self.top / "proofs")
         self.work.build = "build"
 
     def test_what_a_check_leaves_stays_under_the_name_of_its_crate(self):
