@@ -44,6 +44,14 @@ echo archive >crates/cose_c/out/libcose_c.a
 WAIT = 20
 
 
+def has_ended(number):
+    """Whether a process has ended. (It stays until its parent asks for its status.)"""
+    try:
+        return pathlib.Path("/proc", number, "stat").read_text().rpartition(")")[2].split()[0] == "Z"
+    except (FileNotFoundError, ProcessLookupError):
+        return True
+
+
 class Beside(unittest.TestCase):
     def setUp(self):
         self.top = pathlib.Path(tempfile.mkdtemp(prefix="test-beside-"))
@@ -149,16 +157,18 @@ class Beside(unittest.TestCase):
         self.tell("low")
         self.wait_for("tries low 1/1")
         waits = pathlib.Path(f"{self.log}.waits")
-        while not (waits.exists() and waits.read_text()):
+        while not (waits.exists() and waits.read_text().endswith("\n")):
             time.sleep(0.1)
         for number in (signal.SIGTERM, signal.SIGTERM, signal.SIGINT):
             self.process.send_signal(number)
             time.sleep(0.1)
         self.process.communicate(timeout=WAIT)
         self.assertEqual(self.process.returncode, 128 + signal.SIGTERM)
-        stat = pathlib.Path("/proc", waits.read_text().strip(), "stat")
-        # (one that has ended stays until its parent asks for its status)
-        self.assertTrue(not stat.exists() or stat.read_text().rpartition(")")[2].split()[0] == "Z", stat)
+        for _ in range(WAIT * 10):
+            if has_ended(waits.read_text().strip()):
+                return
+            time.sleep(0.1)
+        self.fail("a process is left")
 
     def test_it_ends_with_a_gate_that_fails(self):
         self.begin()
