@@ -6,12 +6,14 @@ edits whose texts still stand once in their files after those before them. An ed
 in no type is one of the functions whose bodies name it.
 """
 import dataclasses
+import itertools
 import re
 from typing import NamedTuple
 
 # a function, an impl block, a trait, a type and a constant, in the layout that `rt fmt` writes
 FUNCTION = re.compile(r'( *)(?:pub(?:\([^)]*\))? )?(?:const )?(?:unsafe )?(?:extern "C" )?fn (\w+)')
 IMPL = re.compile(r"impl(?:<.*?>)? (?:([\w:]+)(?:<(.*)>)? for )?(&?)(?:'\w+ )?(?:mut )?(\w+)")
+CYCLE = re.compile(r" *#\[cycle\((\w+)\)\]")
 TRAIT = re.compile(r"(?:pub(?:\([^)]*\))? )?trait (\w+)")
 TYPE = re.compile(r"^(?:pub(?:\([^)]*\))? )?(?:struct|enum) (\w+)", re.M)
 CONSTANT = re.compile(r"^ *(?:pub(?:\([^)]*\))? )?(?:const|static) (\w+): [^;]*;", re.M)
@@ -22,15 +24,21 @@ IMPORTS = re.compile(r"^ *(?:pub(?:\([^)]*\))? )?(?:ghost )?use [^;]*;|//.*", re
 @dataclasses.dataclass(frozen=True)
 class Function:
     """A function's module, the type or the trait whose block it is in, if any, and its name; then the trait that the type meets
-    there. A method's module is that of its type, wherever its block stands."""
+    there, and the cycle of calls that it is in, if any. A method's module is that of its type, wherever its block stands."""
     module: str
     block: str
     name: str
     trait: str = dataclasses.field(default="", compare=False)
+    cycle: str = dataclasses.field(default="", compare=False)
 
     def path(self):
         """The path that a check has for it, without the crate's name."""
         return "::".join(it for it in (self.module, self.block + self.trait, self.name) if it)
+
+    def answers(self):
+        """The file of its answers, without the crate's folder: functions that call each other have one."""
+        place = "::".join(it for it in (self.module, f"+{self.cycle}") if it) if self.cycle else self.path()
+        return "/".join(["proofs", *place.split("::"), "Answers.antt"])
 
     def has(self, path):
         """Whether a goal at this path is a goal of the function: the path of a check, without the crate's name."""
@@ -98,7 +106,13 @@ def function_at(file, text, place, types=()):
     declared = dict(types).get(block, [])
     if not trait and module not in declared and len(declared) == 1:
         module = declared[0]
-    return Function(module, block, found[2], trait)
+    return Function(module, block, found[2], trait, cycle_of(lines, number))
+
+
+def cycle_of(lines, number):
+    """The cycle of calls that the function at this line is said to be in, in an attribute above it, or nothing."""
+    above = itertools.takewhile(lambda line: line.lstrip().startswith(("#[", "//")), reversed(lines[:number]))
+    return next((found[1] for found in map(CYCLE.match, above) if found), "")
 
 
 def block_at(lines, number):
@@ -197,6 +211,10 @@ class Batch:
     def paths(self):
         """The paths of all functions that the edits change."""
         return sorted({it.path() for functions in self.functions.values() for it in functions})
+
+    def answers(self, paths):
+        """The files of the answers of those of these functions that have one of these paths."""
+        return sorted({it.answers() for functions in self.functions.values() for it in functions if it.path() in paths})
 
     def refused(self, goals):
         """By edit, those of the goals that are of its functions."""

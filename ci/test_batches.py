@@ -87,6 +87,15 @@ class Functions(unittest.TestCase):
             self.assertEqual(made.path(), f"a::{path}")
             self.assertTrue(made.has(f"a::{path}"))
 
+    def test_the_file_of_the_answers(self):
+        self.assertEqual(at("a + 0").answers(), "proofs/a/b/first/Answers.antt")
+        self.assertEqual(at("self.a + 1").answers(), "proofs/a/b/ReaderTake/take/Answers.antt")
+        text = "#[inline]\n#[cycle(items)]\n/// Reads.\nfn read() {\n    7\n}\n"
+        for file, path in ("src/a.rt", "proofs/a/+items/Answers.antt"), ("src/lib.rt", "proofs/+items/Answers.antt"):
+            self.assertEqual(function_at(file, text, text.index("7")).answers(), path)
+        other = text + "\nfn write() {\n    8\n}\n"
+        self.assertEqual(function_at("src/a.rt", other, other.index("8")).answers(), "proofs/a/write/Answers.antt")
+
     def test_a_method_is_of_the_module_of_its_type(self):
         types = {"Reader": ["a"], "Twice": ["a", "c"]}
         text = "impl Reader {\n    fn read() {\n        7\n    }\n}\n"
@@ -142,6 +151,13 @@ class Batches(unittest.TestCase):
         edits = [edit("a + 0", str(number)) for number in range(9)] + [edit("MOST", "LEAST")]
         made, alone = self.made(*edits)
         self.assertEqual(sum(map(len, made)) + len(alone), len(edits))
+
+    def test_the_answers_of_the_functions_of_a_batch(self):
+        batch = Batch(FILES.get)
+        batch.take("one", edit("a + 0", "a + 9"))
+        batch.take("two", edit("self.a + 1", "self.a + 9"))
+        self.assertEqual(batch.answers(["a::b::ReaderTake::take"]), ["proofs/a/b/ReaderTake/take/Answers.antt"])
+        self.assertEqual(len(batch.answers(batch.paths())), 2)
 
     def test_a_body_that_is_not_wrong_is_found(self):
         batch = Batch(FILES.get)

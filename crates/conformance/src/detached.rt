@@ -181,6 +181,11 @@ fn is_stated<'k, const H: usize, const D: usize, K: Keys<'k>>(
     }
 }
 
+/// Whether a refusal has this reason and place.
+fn is_refusal(refusal: Refusal, reason: Reason, place: usize) -> bool {
+    refusal.reason == reason && refusal.place == place as u64
+}
+
 /// Whether a prefix of the message is Truncated at its end, with the whole payload next to it.
 fn is_truncated<'k, const H: usize, const D: usize, K: Keys<'k>>(
     verifier: &mut Verifier<'k, H, D, K>,
@@ -191,11 +196,10 @@ fn is_truncated<'k, const H: usize, const D: usize, K: Keys<'k>>(
 {
     let prefix = case.message.as_slice().get(..end).unwrap_or(&[]);
     let mut came = Comparison::new(case.came());
-    let truncated = Verdict::Refused(Refusal {
-        reason: Reason::Truncated,
-        place: end as u64,
-    });
-    verified(verifier, prefix, case, 64, &mut came) == Some(truncated)
+    match verified(verifier, prefix, case, 64, &mut came) {
+        Some(Verdict::Refused(refusal)) => is_refusal(refusal, Reason::Truncated, end),
+        _ => false,
+    }
 }
 
 /// A verifier under these keys.

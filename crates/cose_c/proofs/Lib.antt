@@ -7,6 +7,7 @@ pub mod Imports
 pub mod Items
 pub mod KeySets
 pub mod KeysChosen
+pub mod KeysOfFed
 pub mod Labels
 pub mod Limits
 pub mod Members

@@ -1,7 +1,8 @@
-use Rattle.std.proofs.Common.{ℕ, List, [], ap, arith, option_map, subst, ◌<◌, ◌∙◌}
+use Rattle.std.proofs.Common.{refl, rules, ℕ, List, [], ap, arith, option_map, subst, ◌<◌, ◌∙◌}
 use Rattle.cose_map.specs.Key.View.{contents}
 use Rattle.cose_cwt.specs.Token.{read_as}
 use Rattle.cose_msg.specs.Message.{Setting, verifying}
+use Rattle.cose_msg.specs.Source.{is_detached_from}
 use Rattle.cose_msg.specs.Task.{Task}
 use Rattle.cose_msg.specs.Verifier.{setting_in}
 use Rattle.cosecmd.specs.Printed.{Output, Says, input_answer, output_of}
@@ -77,3 +78,53 @@ returns-in-Err-reply_of-clause-same_lines g c =
     let made = c.args.self.now.verifier in
     let has = anew made c.reset.new.self c.args.self.now.verifies c.reset.ensures.none_taken in
     ap (λ (s : Setting). λ (message : List ℕ). output_of (input_answer g.row.H g.row.D s (vouching (option_map contents c.args.self.now.vouch.word)) message)) (c.verify-verdict.ensures.purpose.context has ∙ ap (λ (t : Task). t.setting) c.reset.ensures.purpose)
+
+pub settled_stays-requires : goal.settled_stays-requires
+settled_stays-requires g c = tt
+
+pub reset-requires : goal.reset-requires
+reset-requires g c κs = (search rules, (refl, tt))
+
+pub verify-verdict-requires : goal.verify-verdict-requires
+verify-verdict-requires g c κs =
+    let inspects = ap (λ (t : Task). t.inspects) c.reset.ensures.purpose ∙ c.args.self.now.verifies in
+    let detached = ap (λ (t : Task). is_detached_from t.setting.source) c.reset.ensures.purpose ∙ c.args.self.now.attached in
+    (search rules, ((refl, tt), (omega (arith), (omega (arith), (inspects, detached)))))
+
+pub invariant_of-self : goal.invariant_of-self
+invariant_of-self g c =
+    let purpose = c.reset.ensures.purpose in
+    record {
+      verifies = c.verify-verdict.ensures.purpose.inspects ∙ ap (λ (t : Task). t.inspects) purpose ∙ c.args.self.now.verifies;
+      attached = c.verify-verdict.ensures.purpose.detached ∙ ap (λ (t : Task). is_detached_from t.setting.source) purpose ∙ c.args.self.now.attached;
+    }
+
+pub returns-in-Err-clause-part : goal.returns-in-Err-clause-part
+returns-in-Err-clause-part g c = λ bytes e. tt
+
+pub returns-in-Err-clause-some : goal.returns-in-Err-clause-some
+returns-in-Err-clause-some g c = tt
+
+pub taken-taken-requires : goal.taken-taken-requires
+taken-taken-requires g c κs = (search rules, (refl, tt))
+
+pub returns-then-taken-eq0-clause-some : goal.returns-then-taken-eq0-clause-some
+returns-then-taken-eq0-clause-some g c = tt
+
+pub is_read_whole-whole-requires : goal.is_read_whole-whole-requires
+is_read_whole-whole-requires g c = tt
+
+pub reply_of-requires : goal.reply_of-requires
+reply_of-requires g c = tt
+
+pub missing_by-requires : goal.missing_by-requires
+missing_by-requires g c = tt
+
+pub returns-in-Ok-reply_of-clause-some : goal.returns-in-Ok-reply_of-clause-some
+returns-in-Ok-reply_of-clause-some g c = omega (arith, c.if-taken-eq0.false)
+
+pub returns-in-Err-reply_of-clause-part : goal.returns-in-Err-reply_of-clause-part
+returns-in-Err-reply_of-clause-part g c = λ bytes e. tt
+
+pub returns-in-Err-reply_of-clause-some : goal.returns-in-Err-reply_of-clause-some
+returns-in-Err-reply_of-clause-some g c = tt
