@@ -3,12 +3,10 @@
 A check goes on after a function that isn't proved, and a caller stands on contracts. So edits of different functions can be
 tried at once: each is refused where a goal of its own function is. In one batch are at most one edit of a function, and only
 edits whose texts still stand once in their files after those before them. An edit of a constant that stands in no signature and
-in no type is one of the functions whose bodies name it. A check proves anew what is called by one of the functions with an edit
-and calls another: so many edits are tried in batches of those whose functions are at about the same height above what calls nothing.
+in no type is one of the functions whose bodies name it.
 """
 import dataclasses
 import itertools
-import math
 import re
 from typing import NamedTuple
 
@@ -19,10 +17,6 @@ CYCLE = re.compile(r" *#\[cycle\((\w+)\)\]")
 TRAIT = re.compile(r"(?:pub(?:\([^)]*\))? )?trait (\w+)")
 TYPE = re.compile(r"^(?:pub(?:\([^)]*\))? )?(?:struct|enum) (\w+)", re.M)
 CONSTANT = re.compile(r"^ *(?:pub(?:\([^)]*\))? )?(?:const|static) (\w+): [^;]*;", re.M)
-# a call: a name before arguments
-CALL = re.compile(r"\b(\w+)(?:::<[^;{}()]*>)?\(")
-# the most edits of a batch: reading the libraries for one more takes as long as proving some ten functions between them
-MOST = 40
 # what names a constant and doesn't use it
 IMPORTS = re.compile(r"^ *(?:pub(?:\([^)]*\))? )?(?:ghost )?use [^;]*;|//.*", re.M)
 
@@ -177,34 +171,6 @@ def users_of(name, text_of, files, types=()):
     return users or None
 
 
-def calls_in(read, files):
-    """By the name of each function, what the bodies of the functions of that name call."""
-    found = {}
-    for file in files:
-        lines = read(file).split("\n")
-        for at, line in enumerate(lines):
-            function = FUNCTION.match(line)
-            if function:
-                body = itertools.takewhile(lambda it, end=function[1] + "}": it != end, lines[at + 1 :])
-                found.setdefault(function[2], set()).update(CALL.findall("\n".join(body)))
-    return found
-
-
-def heights(calls):
-    """By the name of each function, how many calls are below it at most, one in the other, as far as names tell."""
-    made = {}
-
-    def height(name, above):
-        if name not in made:
-            below = [height(it, above | {name}) for it in calls[name] - above - {name} if it in calls]
-            made[name] = 1 + max(below, default=-1)
-        return made[name]
-
-    for name in sorted(calls):
-        height(name, frozenset())
-    return made
-
-
 class Batch:
     """Edits that are tried in one check: the texts of the files that they change, and each edit's functions."""
 
@@ -242,17 +208,6 @@ class Batch:
         self.constants |= constants
         return True
 
-    def parts(self, changes, height):
-        """Batches of at most MOST of its edits each, by the heights of functions. The changes are those of each edit."""
-        def place(edit):
-            return max(height.get(it.name, 0) for it in self.functions[edit])
-
-        edits, count = sorted(self.functions, key=place), math.ceil(len(self.functions) / MOST)
-        made = [Batch(self.read, self.files, self.types) for _ in range(count)]
-        for at, edit in enumerate(edits):
-            made[at * count // len(edits)].take(edit, changes[edit])
-        return made
-
     def paths(self):
         """The paths of all functions that the edits change."""
         return sorted({it.path() for functions in self.functions.values() for it in functions})
@@ -280,5 +235,4 @@ def batches(edits, read, files=()):
             made.append(batch)
         else:
             alone.append(edit)
-    height = heights(calls_in(read, files))
-    return [part for batch in made for part in batch.parts(dict(edits), height)], alone
+    return made, alone

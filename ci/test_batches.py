@@ -4,7 +4,7 @@ import sys
 import unittest
 
 sys.dont_write_bytecode = True
-from batches import MOST, Batch, Change, Function, batches, calls_in, changes_of, function_at, heights  # noqa: E402 (beside this file)
+from batches import Batch, Change, Function, batches, changes_of, function_at  # noqa: E402 (beside this file)
 
 SOURCE = """//! A module.
 
@@ -151,23 +151,6 @@ class Batches(unittest.TestCase):
         edits = [edit("a + 0", str(number)) for number in range(9)] + [edit("MOST", "LEAST")]
         made, alone = self.made(*edits)
         self.assertEqual(sum(map(len, made)) + len(alone), len(edits))
-
-    def test_many_edits_are_in_batches_by_height(self):
-        names = [f"at_{number}" for number in range(2 * MOST)]
-        texts = [f"fn {name}() {{\n    {names[at + 1] + '()' if at % MOST < MOST - 1 else name}\n}}\n" for at, name in enumerate(names)]
-        read = {"src/a.rt": "\n".join(texts)}.get
-        edits = [(name, [Change("src/a.rt", text, text.replace("    ", "    0 + "))]) for name, text in zip(names, texts)]
-        made, alone = batches(edits, read, ["src/a.rt"])
-        self.assertEqual(alone, [])
-        low, high = ({int(name[3:]) % MOST for name in batch.functions} for batch in made)
-        self.assertEqual((low, high), (set(range(MOST // 2, MOST)), set(range(MOST // 2))))
-
-    def test_the_heights_of_functions(self):
-        read = {"src/a.rt": "fn top() {\n    a.mid::<u8>(low(1))\n}\n", "src/b.rt": "    fn mid() {\n        low(2) + other(3) + mid()\n    }\nfn low() {\n    top()\n}\n"}
-        calls = calls_in(read.get, sorted(read))
-        self.assertEqual(calls, {"top": {"mid", "low"}, "mid": {"low", "other", "mid"}, "low": {"top"}})
-        self.assertEqual(heights({**calls, "low": set()}), {"low": 0, "mid": 1, "top": 2})
-        self.assertEqual(set(heights(calls)), set(calls))
 
     def test_the_answers_of_the_functions_of_a_batch(self):
         batch = Batch(FILES.get)
