@@ -1,9 +1,8 @@
 -- The key of a message that a verifier is fed, by what is known of the terms and of the message.
-use Rattle.std.proofs.Common.{◌≡◌, ℕ, Bool, true, false, not, List, Option, Some, None, refl, sym, ap, ◌∙◌, if◌then◌else◌}
+use Rattle.std.proofs.Common.{◌≡◌, ℕ, Bool, true, false, not, Option, Some, None, refl, sym, ap, ◌∙◌, if◌then◌else◌}
 use Rattle.cose_head.specs.Placed.{Placed}
 use Rattle.cose_head.specs.declared.kind.Kind.{Kind}
 use Rattle.cose_map.specs.Choice.{Question}
-use Rattle.cose_map.specs.Map.Pairs.{Pair}
 use Rattle.cose_msg.specs.Naming.{asked_by}
 use Rattle.cose_msg.specs.Shown.{protected_of, unprotected_of}
 use Rattle.cose_msg.specs.declared.verifier.Verifier.{Verifier}

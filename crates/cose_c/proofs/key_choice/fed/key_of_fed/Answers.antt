@@ -8,32 +8,8 @@ use Rattle.cose_c.proofs.KeysOfFed.{none_if_unknown, none_without_kind, none_wit
 use Rattle.cose_c.proofs.key_choice.fed.key_of_fed.Goals as goal
 use Rattle.cose_c.proofs.key_choice.fed.key_of_fed.Goals.{in_default-via-in-Some+in_default, in_default-via-in_default}
 
-pub kind_numbered-requires : goal.kind_numbered-requires
-kind_numbered-requires g c = tt
-
-pub no_item-requires : goal.no_item-requires
-no_item-requires g c = tt
-
-pub is_known-requires : goal.is_known-requires
-is_known-requires g c = tt
-
-pub no_item-requires-then-not-is_known : goal.no_item-requires-then-not-is_known
-no_item-requires-then-not-is_known g c = tt
-
 pub query-requires : goal.query-requires
 query-requires g c κs = (search rules, (refl, tt))
-
-pub permission-requires : goal.permission-requires
-permission-requires g c = tt
-
-pub first_in-requires : goal.first_in-requires
-first_in-requires g c = tt
-
-pub numbers_of-requires : goal.numbers_of-requires
-numbers_of-requires g c = tt
-
-pub no_item-requires-in-None : goal.no_item-requires-in-None
-no_item-requires-in-None g c = tt
 
 pub returns-in_default : goal.returns-in_default
 returns-in_default g c =
