@@ -79,9 +79,6 @@ returns-in-Err-reply_of-clause-same_lines g c =
     let has = anew made c.reset.new.self c.args.self.now.verifies c.reset.ensures.none_taken in
     ap (λ (s : Setting). λ (message : List ℕ). output_of (input_answer g.row.H g.row.D s (vouching (option_map contents c.args.self.now.vouch.word)) message)) (c.verify-verdict.ensures.purpose.context has ∙ ap (λ (t : Task). t.setting) c.reset.ensures.purpose)
 
-pub settled_stays-requires : goal.settled_stays-requires
-settled_stays-requires g c = tt
-
 pub reset-requires : goal.reset-requires
 reset-requires g c κs = (search rules, (refl, tt))
 
@@ -110,15 +107,6 @@ taken-taken-requires g c κs = (search rules, (refl, tt))
 
 pub returns-then-taken-eq0-clause-some : goal.returns-then-taken-eq0-clause-some
 returns-then-taken-eq0-clause-some g c = tt
-
-pub is_read_whole-whole-requires : goal.is_read_whole-whole-requires
-is_read_whole-whole-requires g c = tt
-
-pub reply_of-requires : goal.reply_of-requires
-reply_of-requires g c = tt
-
-pub missing_by-requires : goal.missing_by-requires
-missing_by-requires g c = tt
 
 pub returns-in-Ok-reply_of-clause-some : goal.returns-in-Ok-reply_of-clause-some
 returns-in-Ok-reply_of-clause-some g c = omega (arith, c.if-taken-eq0.false)
