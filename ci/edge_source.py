@@ -1,4 +1,5 @@
-"""Reads what the crates say of the C interface: reasons, algorithms, statuses, structs and exported functions."""
+"""Reads what the crates say of the C interface: reasons, algorithms, statuses, structs and exported functions, each once."""
+import functools
 import pathlib
 import re
 from typing import NamedTuple
@@ -84,6 +85,7 @@ def plain(cell):
     return re.sub(r"\[([^\]]*)\]\([^)]*\)", r"\1", cell).replace("`", "").strip()
 
 
+@functools.cache
 def reasons():
     """The reasons, by their numbers: the enum's, which ci/documents compares with the page."""
     source = (CRATES / "cose_head" / "src" / "reason.rt").read_text()
@@ -97,6 +99,7 @@ def reasons():
     return [Reason(int(number), name, words(text), *rows[int(number)]) for text, name, number in found]
 
 
+@functools.cache
 def algorithms():
     """The algorithms, in the order of their table."""
     source = (CRATES / "cose_head" / "src" / "algorithm.rt").read_text()
@@ -105,6 +108,7 @@ def algorithms():
     return [Named(int(numbers[name]), name, words(text)) for text, name in re.findall(r"((?:^ *///.*\n)+) *(\w+),$", body, re.M)]
 
 
+@functools.cache
 def statuses():
     """The statuses, by their numbers."""
     source = (SOURCES / "numbers.rt").read_text()
@@ -112,6 +116,7 @@ def statuses():
     return [Named(int(number), name, words(text)) for text, name, number in found]
 
 
+@functools.cache
 def sources():
     """The text of each file of cose_c, in the order of their paths."""
     return [path.read_text() for path in sorted(SOURCES.rglob("*.rt"))]
@@ -124,6 +129,7 @@ def fields_of(body):
     return [(name, re.sub(r"&'\w+ ", "&", kind.strip())) for name, kind in found]
 
 
+@functools.cache
 def structs():
     """The structs that cross to C, each after those that it has."""
     pattern = r"((?:^///[^\n]*\n)+)#\[repr\(C\)\]\n(?:#\[[^\]]*\]\n)*pub struct (Cose\w+)(?:<[^>]*>)? \{([^{}]*(?:\{[^{}]*\}[^{}]*)*)\n\}"
@@ -146,6 +152,7 @@ def structs():
 SIZES = {"u8": 1, "bool": 1, "u32": 4, "i32": 4, "u64": 8, "i64": 8, "usize": 8, "*mut u8": 8}
 
 
+@functools.cache
 def layouts():
     """By the rules of C for 64 bits: the size and the alignment of each struct, and its last field with where that is."""
     found = {}
@@ -170,6 +177,7 @@ def layouts():
     return found
 
 
+@functools.cache
 def exports():
     """The exported functions, in the order of their files; those of the large size have their struct's kind, `CoseLargeVerifier`."""
     pattern = r"((?:^///[^\n]*\n)+)#\[unsafe\(no_mangle\)\]\npub (?:unsafe )?extern \"C\" fn (\w+)(?:<[^>]*>)?\(([^)]*)\)(?: -> (\w+))?"
