@@ -1,6 +1,7 @@
-use Rattle.std.proofs.Common.{false, Some, sym, ap, ◌∙◌}
+use Rattle.std.proofs.Common.{false, Some, refl, sym, ap, subst, ◌∙◌, zero-le}
+use Rattle.std.proofs.Math.Nat.{le_refl}
 use Rattle.cose_msg.specs.Status.{status_in}
-use Rattle.cose_c.specs.Stream.{nothing_fed, status_numbers, task_by}
+use Rattle.cose_c.specs.Stream.{HasRead, nothing_fed, status_numbers, task_by}
 use Rattle.cose_c.proofs.Streams.{numbers_of_nothing, read_in, same_task, status_of_verifier, wanted_in}
 use Rattle.cose_c.proofs.stream.feed.Goals as goal
 
@@ -34,3 +35,33 @@ returns-in-Some-clause-again g c = λ settled.
           c.fed_numbers.ensures.from c.fed_numbers.ensures.to nothing.0 ∙ sym (ap nothing_fed (status_of_verifier c.args.content.now c.in-Some.verifier c.in-Some.is)),
       ap Some nothing.1 ∙ sym c.in-Some.is,
     )
+
+pub returns-in-Some-clause-current : goal.returns-in-Some-clause-current
+returns-in-Some-clause-current g c = c.fed_numbers.ensures.status ∙ ap status_numbers c.feed.ensures.current
+
+pub returns-in-Some-clause-fits : goal.returns-in-Some-clause-fits
+returns-in-Some-clause-fits g c = rw c.fed_numbers.ensures.used c.feed.ensures.fits
+
+pub returns-in-Some-clause-among : goal.returns-in-Some-clause-among
+returns-in-Some-clause-among g c = rw (c.fed_numbers.ensures.to, c.fed_numbers.ensures.used) c.feed.ensures.among
+
+pub returns-in-None-clause-uses : goal.returns-in-None-clause-uses
+returns-in-None-clause-uses g c = λ task taken payload read. absurd (subst (HasRead task taken payload) c.in-None.is read)
+
+pub returns-in-None-clause-reads : goal.returns-in-None-clause-reads
+returns-in-None-clause-reads g c = λ task taken payload read. absurd (subst (HasRead task taken payload) c.in-None.is read)
+
+pub returns-in-None-clause-status : goal.returns-in-None-clause-status
+returns-in-None-clause-status g c = λ task taken payload read. absurd (subst (HasRead task taken payload) c.in-None.is read)
+
+pub returns-in-None-clause-current : goal.returns-in-None-clause-current
+returns-in-None-clause-current g c = rw (c.in-None.is, c.nothing_fed.ensures) c.plain_status.ensures
+
+pub returns-in-None-clause-fits : goal.returns-in-None-clause-fits
+returns-in-None-clause-fits g c = rw c.nothing_fed.ensures zero-le
+
+pub returns-in-None-clause-among : goal.returns-in-None-clause-among
+returns-in-None-clause-among g c = rw c.nothing_fed.ensures (le_refl 0)
+
+pub returns-in-None-clause-again : goal.returns-in-None-clause-again
+returns-in-None-clause-again g c = λ settled. (c.nothing_fed.ensures ∙ ap nothing_fed (rw c.in-None.is c.plain_status.ensures), refl)

@@ -5,6 +5,7 @@ use Rattle.cose_msg.specs.Shown.{Shown, protected_of, sign_input_of, unprotected
 use Rattle.cose_msg.specs.Verifier.{setting_of}
 use Rattle.cosecmd.specs.Under.{under_of}
 use Rattle.cosecmd.specs.Vouch.{vouching}
+use Rattle.cosecmd.proofs.lemmas.Files.Failures.{then_failed}
 use Rattle.cosecmd.proofs.lemmas.Messages.MessageReplies.{says_answered}
 use Rattle.cosecmd.proofs.lemmas.Messages.Replies.{says_under}
 use Rattle.cosecmd.proofs.answer.message.attached_reply.Goals as goal
@@ -21,3 +22,6 @@ returns-in-Ok-verify-clause-says g c = λ bytes e.
     (says_answered c.args.question.now g.row.H g.row.D setting bytes c.settled_stays.ensures.message c.deciding_goes_last.ensures.verifying decides c.spelled_is_read.ensures.read c.unrefused_is_message.ensures.any
     _ _ run.0 c.in-Ok-verify.verdict _ (sign_input_of c.verify.new.verifier) (protected_of c.verify.new.verifier) (unprotected_of c.verify.new.verifier) c.reply_to.result e run.1.bytes (λ unsettled. (run.1.answer.ends.unsettled unsettled).1) run.1.none_after_end run.1.answer.answer run.1.answer.counted run.2.0
     (ap (λ (x : Shown). x.sign_input) run.2.1) (ap (λ (x : Shown). x.protected) run.2.1) (ap (λ (x : Shown). x.unprotected) run.2.1) c.reply_to.ensures.says))
+
+pub returns-in-Ok-verify-clause-input : goal.returns-in-Ok-verify-clause-input
+returns-in-Ok-verify-clause-input g c = then_failed _ _ _ _ c.in-Ok-verify.ensures.intake_failure c.reply_to.ensures.input

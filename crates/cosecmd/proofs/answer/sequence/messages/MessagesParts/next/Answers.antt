@@ -1,4 +1,4 @@
-use Rattle.std.proofs.Common.{refl, rules, ℕ, List, [], ap, arith, option_map, subst, ◌<◌, ◌∙◌}
+use Rattle.std.proofs.Common.{ℕ, List, [], ap, arith, option_map, subst, ◌<◌, ◌∙◌}
 use Rattle.cose_map.specs.Key.View.{contents}
 use Rattle.cose_cwt.specs.Token.{read_as}
 use Rattle.cose_msg.specs.Message.{Setting, verifying}
@@ -79,15 +79,6 @@ returns-in-Err-reply_of-clause-same_lines g c =
     let has = anew made c.reset.new.self c.args.self.now.verifies c.reset.ensures.none_taken in
     ap (λ (s : Setting). λ (message : List ℕ). output_of (input_answer g.row.H g.row.D s (vouching (option_map contents c.args.self.now.vouch.word)) message)) (c.verify-verdict.ensures.purpose.context has ∙ ap (λ (t : Task). t.setting) c.reset.ensures.purpose)
 
-pub reset-requires : goal.reset-requires
-reset-requires g c κs = (search rules, (refl, tt))
-
-pub verify-verdict-requires : goal.verify-verdict-requires
-verify-verdict-requires g c κs =
-    let inspects = ap (λ (t : Task). t.inspects) c.reset.ensures.purpose ∙ c.args.self.now.verifies in
-    let detached = ap (λ (t : Task). is_detached_from t.setting.source) c.reset.ensures.purpose ∙ c.args.self.now.attached in
-    (search rules, ((refl, tt), (omega (arith), (omega (arith), (inspects, detached)))))
-
 pub invariant_of-self : goal.invariant_of-self
 invariant_of-self g c =
     let purpose = c.reset.ensures.purpose in
@@ -101,9 +92,6 @@ returns-in-Err-clause-part g c = λ bytes e. tt
 
 pub returns-in-Err-clause-some : goal.returns-in-Err-clause-some
 returns-in-Err-clause-some g c = tt
-
-pub taken-taken-requires : goal.taken-taken-requires
-taken-taken-requires g c κs = (search rules, (refl, tt))
 
 pub returns-then-taken-eq0-clause-some : goal.returns-then-taken-eq0-clause-some
 returns-then-taken-eq0-clause-some g c = tt
