@@ -1,4 +1,5 @@
 use Rattle.std.proofs.Common.{◌≡◌, ℕ, Bool, true, false, sym, ap, ◌∙◌}
+use Rattle.std.proofs.lemmas.Bool.{false≢true}
 use Rattle.std.specs.Prelude.{◌&&◌, ◌==◌}
 use Rattle.cose_head.specs.Algorithm.{auth_length_of}
 use Rattle.cose_msg.specs.Elsewhere.{key_asked}
@@ -24,5 +25,4 @@ returns-else-is_mac-clause-whole g c = λ setting taken payload found whole h is
 
 pub returns-in-None-clause-whole : goal.returns-in-None-clause-whole
 returns-in-None-clause-whole g c = λ setting taken payload found whole h is framed.
-    let clash : false ≡ true = c.in-None.ensures.some setting taken payload h ∙ framed in
-    absurd cc
+    absurd (false≢true (c.in-None.ensures.some setting taken payload h ∙ framed))

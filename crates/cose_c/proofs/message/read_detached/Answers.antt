@@ -1,4 +1,5 @@
 use Rattle.std.proofs.Common.{◌≡◌, true, false, [], length, Some, sym, ap, subst, ◌∙◌}
+use Rattle.std.proofs.lemmas.Bool.{true≢false}
 use Rattle.cose_msg.specs.Answer.{Answer, decided}
 use Rattle.cose_msg.specs.Message.{given, verdict_of}
 use Rattle.cose_msg.specs.Reading.{Reading}
@@ -37,4 +38,4 @@ returns-clause-input g c = λ two.
 pub unreachable-requires : goal.unreachable-requires
 unreachable-requires g c =
     never_stops c.verify_detached.result c.in-Err.field-0 c.in-Err.is (either_fails _ c.verify_detached.ensures.intake_failure) (sym c.verify_detached.ensures.sink_failure)
-    (λ e. let stopped : true ≡ false = sym (c.verify_detached.ensures.stopped.0 e) ∙ c.requires.fresh.goes_on in absurd cc)
+    (λ e. absurd (true≢false (sym (c.verify_detached.ensures.stopped.0 e) ∙ c.requires.fresh.goes_on)))

@@ -1,4 +1,5 @@
 use Rattle.std.proofs.Common.{◌≡◌, true, [], Some, false, length, sym, ap, ◌∙◌, arith}
+use Rattle.std.proofs.lemmas.Bool.{true≢false}
 use Rattle.cose_msg.specs.Answer.{decided}
 use Rattle.cose_msg.specs.Reading.{Reading}
 use Rattle.cose_msg.specs.Shown.{Shown, sign_input_in}
@@ -51,4 +52,4 @@ pub unreachable-requires : goal.unreachable-requires
 unreachable-requires g c =
     let fed = c.feed-fed.ensures.taken (to_verify (setting_in c.args.verifier.now)) [] [] c.requires.fresh in
     never_stops c.verify.result c.in-Err.field-0 c.in-Err.is (sym c.verify.ensures.intake_failure) (sym c.verify.ensures.sink_failure)
-    (λ e. let stopped : true ≡ false = sym (c.verify.ensures.stopped.0 e) ∙ fed.goes_on in absurd cc)
+    (λ e. absurd (true≢false (sym (c.verify.ensures.stopped.0 e) ∙ fed.goes_on)))

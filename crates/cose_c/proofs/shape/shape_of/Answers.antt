@@ -1,4 +1,5 @@
 use Rattle.std.proofs.Common.{◌≡◌, true, false, [], length, sym, ap, ◌∙◌}
+use Rattle.std.proofs.lemmas.Bool.{true≢false}
 use Rattle.cose_msg.specs.Answer.{Answer}
 use Rattle.cose_msg.specs.Message.{inspecting, message}
 use Rattle.cose_msg.specs.Run.{inspection}
@@ -18,4 +19,4 @@ returns g c =
 pub unreachable-requires : goal.unreachable-requires
 unreachable-requires g c =
     never_stops c.inspect.result c.in-Err.field-0 c.in-Err.is (sym c.inspect.ensures.intake_failure) (sym c.inspect.ensures.sink_failure)
-    (λ e. let stopped : true ≡ false = sym (c.inspect.ensures.stopped.0 e) ∙ c.requires.fresh.goes_on in absurd cc)
+    (λ e. absurd (true≢false (sym (c.inspect.ensures.stopped.0 e) ∙ c.requires.fresh.goes_on)))

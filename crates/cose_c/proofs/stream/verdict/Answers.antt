@@ -1,4 +1,5 @@
 use Rattle.std.proofs.Common.{◌≡◌, true, false, Some, refl, ap, sym, subst, ◌∙◌}
+use Rattle.std.proofs.lemmas.Bool.{false≢true, true≢false}
 use Rattle.cose_msg.specs.declared.verdict.Verdict.{Verdict}
 use Rattle.cose_msg.specs.Answer.{decided}
 use Rattle.cose_msg.specs.Kept.{is_inspecting}
@@ -16,8 +17,7 @@ returns-then-not-is_decidable-clause-verdict g c = λ setting taken payload read
     let done : is_complete (status_in c.in-Some.verifier) ≡ true =
     ap is_complete (sym c.status-status.ensures.value ∙ c.status-status.ensures.reads (to_verify setting) taken payload v) ∙ complete in
     let verifies : is_inspecting c.in-Some.verifier ≡ false = ap (λ (t : Task). t.inspects) v.made_for in
-    let clash : true ≡ false = sym (c.is_decidable.ensures ∙ decidable c.in-Some.verifier done verifies) ∙ c.if-not-is_decidable.true in
-    absurd cc
+    absurd (true≢false (sym (c.is_decidable.ensures ∙ decidable c.in-Some.verifier done verifies) ∙ c.if-not-is_decidable.true))
 
 pub returns-in-Authentic-clause-verdict : goal.returns-in-Authentic-clause-verdict
 returns-in-Authentic-clause-verdict g c = λ setting taken payload read complete.
@@ -33,8 +33,7 @@ returns-in-Refused-clause-verdict g c = λ setting taken payload read complete.
 pub returns-then-not-is_decidable-clause-kept : goal.returns-then-not-is_decidable-clause-kept
 returns-then-not-is_decidable-clause-kept g c = λ has.
     let here : is_decidable c.in-Some.verifier ≡ true = decidable_in _ c.in-Some.verifier c.in-Some.is has in
-    let clash : true ≡ false = sym (c.is_decidable.ensures ∙ here) ∙ c.if-not-is_decidable.true in
-    absurd cc
+    absurd (true≢false (sym (c.is_decidable.ensures ∙ here) ∙ c.if-not-is_decidable.true))
 
 pub returns-in-Authentic-clause-kept : goal.returns-in-Authentic-clause-kept
 returns-in-Authentic-clause-kept g c = λ has.
@@ -50,8 +49,7 @@ returns-then-not-is_decidable-clause-stays g c = λ setting taken payload read c
     let done : is_complete (status_in c.in-Some.verifier) ≡ true =
     ap is_complete (sym c.status-status.ensures.value ∙ c.status-status.ensures.reads (to_verify setting) taken payload v) ∙ complete in
     let verifies : is_inspecting c.in-Some.verifier ≡ false = ap (λ (t : Task). t.inspects) v.made_for in
-    let clash : true ≡ false = sym (c.is_decidable.ensures ∙ decidable c.in-Some.verifier done verifies) ∙ c.if-not-is_decidable.true in
-    absurd cc
+    absurd (true≢false (sym (c.is_decidable.ensures ∙ decidable c.in-Some.verifier done verifies) ∙ c.if-not-is_decidable.true))
 
 pub returns-in-Authentic-clause-stays : goal.returns-in-Authentic-clause-stays
 returns-in-Authentic-clause-stays g c = λ setting taken payload read complete.
@@ -71,13 +69,11 @@ returns-in_default-clause-incomplete g c = λ lacks. (c.no_message.ensures ∙ a
 
 pub returns-in_default-clause-again : goal.returns-in_default-clause-again
 returns-in_default-clause-again g c = λ verdict has kept.
-    let clash : false ≡ true = rw c.in_default.is at has in
-    absurd cc
+    absurd (false≢true (rw c.in_default.is at has))
 
 pub returns-in_default-clause-kept : goal.returns-in_default-clause-kept
 returns-in_default-clause-kept g c = λ has.
-    let clash : false ≡ true = rw c.in_default.is at has in
-    absurd cc
+    absurd (false≢true (rw c.in_default.is at has))
 
 pub returns-in_default-clause-stays : goal.returns-in_default-clause-stays
 returns-in_default-clause-stays g c = λ setting taken payload read complete. absurd (subst (HasRead (to_verify setting) taken payload) c.in_default.is read)
@@ -89,8 +85,7 @@ returns-then-not-is_decidable-clause-incomplete g c = λ lacks.
 pub returns-then-not-is_decidable-clause-again : goal.returns-then-not-is_decidable-clause-again
 returns-then-not-is_decidable-clause-again g c = λ verdict has kept.
     let here : is_decidable c.in-Some.verifier ≡ true = decidable_in _ c.in-Some.verifier c.in-Some.is has in
-    let clash : true ≡ false = sym (c.is_decidable.ensures ∙ here) ∙ c.if-not-is_decidable.true in
-    absurd cc
+    absurd (true≢false (sym (c.is_decidable.ensures ∙ here) ∙ c.if-not-is_decidable.true))
 
 pub returns-then-not-is_decidable-clause-same_task : goal.returns-then-not-is_decidable-clause-same_task
 returns-then-not-is_decidable-clause-same_task g c = rw c.in-Some.is refl
@@ -103,8 +98,7 @@ returns-then-not-is_decidable-clause-signed g c = rw c.in-Some.is refl
 
 pub returns-in-Authentic-clause-incomplete : goal.returns-in-Authentic-clause-incomplete
 returns-in-Authentic-clause-incomplete g c = λ lacks.
-    let clash : true ≡ false = sym c.if-not-is_decidable.false ∙ c.is_decidable.ensures ∙ (rw c.in-Some.is at lacks) in
-    absurd cc
+    absurd (true≢false (sym c.if-not-is_decidable.false ∙ c.is_decidable.ensures ∙ (rw c.in-Some.is at lacks)))
 
 pub returns-in-Authentic-clause-again : goal.returns-in-Authentic-clause-again
 returns-in-Authentic-clause-again g c = λ verdict has kept.
@@ -124,8 +118,7 @@ returns-in-Authentic-clause-signed g c = rw c.in-Some.is (ap (λ (s : Shown). s.
 
 pub returns-in-Refused-clause-incomplete : goal.returns-in-Refused-clause-incomplete
 returns-in-Refused-clause-incomplete g c = λ lacks.
-    let clash : true ≡ false = sym c.if-not-is_decidable.false ∙ c.is_decidable.ensures ∙ (rw c.in-Some.is at lacks) in
-    absurd cc
+    absurd (true≢false (sym c.if-not-is_decidable.false ∙ c.is_decidable.ensures ∙ (rw c.in-Some.is at lacks)))
 
 pub returns-in-Refused-clause-again : goal.returns-in-Refused-clause-again
 returns-in-Refused-clause-again g c = λ verdict has kept.

@@ -1,4 +1,6 @@
-use Rattle.std.proofs.Common.{◌≡◌, ℕ, ◌<◌, ◌≤◌, rules, length-append, true, false, List, [], ◌++◌, length, take, drop, refl, sym, ◌∙◌, arith}
+use Rattle.std.proofs.Common.{◌≡◌, ℕ, ◌<◌, ◌≤◌, ◌||◌, rules, length-append, Bool, true, false, List, [], ◌++◌, length, take, drop, refl, sym, ◌∙◌, arith}
+use Rattle.std.proofs.lemmas.Bool.{true≢false}
+use Rattle.std.proofs.Math.Bool.{or-true}
 use Rattle.std.proofs.lemmas.Grind.{common_steps}
 use Rattle.std.proofs.lemmas.List.{length-drop, length-take}
 use Rattle.std.proofs.KnownBytes.{Consumes-nil, Appends-nil}
@@ -64,7 +66,7 @@ returns-then-asked-eq0-clause-drive g c = λ task s B h.
     let room : g.row.H ≤ 65535 = c.pieces.verifier.reader.limit in
     let done = settled_if_none_asked (record { read = c.messages_are_bounded.ensures.verified.0; compared = c.messages_are_bounded.ensures.verified.1; inspected = c.messages_are_bounded.ensures.inspected }) room c.request-asked.result a.reads_on (c.lemma_reading_so_far.ensures.settled task _ _ _ a.reads_on.so_far a.reads_on.came) c.request-asked.ensures.some none in
     concluded a (Consumes-nil _) (c.lemma_reading_so_far.ensures.payload task _ _ _ a.reads_on.so_far a.reads_on.came) (c.lemma_reading_so_far.ensures.shows task _ _ _ a.reads_on.so_far a.reads_on.came)
-    (λ e. let clash : true ≡ false = sym done ∙ e in absurd cc) (λ e. a.not_ended)
+    (λ e. absurd (true≢false (sym done ∙ e))) (λ e. a.not_ended)
 
 pub returns-in-Err-clause-drive : goal.returns-in-Err-clause-drive
 returns-in-Err-clause-drive g c = λ task s B h.
@@ -81,7 +83,7 @@ returns-then-count-eq0-clause-drive g c = λ task s B h.
     let took = rw none at c.in-Ok.ensures.bytes in
     let ended = rw none at c.in-Ok.ensures.end in
     concluded a took.0 (c.lemma_reading_so_far.ensures.payload task _ _ _ a.reads_on.so_far a.reads_on.came) (c.lemma_reading_so_far.ensures.shows task _ _ _ a.reads_on.so_far a.reads_on.came)
-    (λ e. (ended, took.1 refl)) (λ e. let clash : true ≡ false = sym e ∙ open_yet in absurd cc)
+    (λ e. (ended, took.1 refl)) (λ e. absurd (true≢false (sym e ∙ open_yet)))
 
 pub returns-then-is_err-clause-drive : goal.returns-then-is_err-clause-drive
 returns-then-is_err-clause-drive g c = λ task s B h.
@@ -231,3 +233,21 @@ lemma_reading_so_far-requires-in-pieces g c = grind (arith, common_steps)
 
 pub stop-requires-then-is_err : goal.stop-requires-then-is_err
 stop-requires-then-is_err g c = grind (arith, common_steps)
+
+pub returns-then-asked-eq0-clause-intake_failure : goal.returns-then-asked-eq0-clause-intake_failure
+returns-then-asked-eq0-clause-intake_failure g c = c.pieces.invariant.3 ∙ unfailed _ _ refl
+
+pub returns-in-Err-clause-intake_failure : goal.returns-in-Err-clause-intake_failure
+returns-in-Err-clause-intake_failure g c = c.in-Err.ensures.failure ∙ sym (or-true _)
+
+pub returns-in-Err-clause-sink_failure : goal.returns-in-Err-clause-sink_failure
+returns-in-Err-clause-sink_failure g c = c.pieces.invariant.4 ∙ unfailed _ _ refl
+
+pub returns-then-count-eq0-clause-intake_failure : goal.returns-then-count-eq0-clause-intake_failure
+returns-then-count-eq0-clause-intake_failure g c = c.in-Ok.ensures.failure ∙ c.pieces.invariant.3 ∙ unfailed _ _ refl
+
+pub pieces-smaller : goal.pieces-smaller
+pieces-smaller g c =
+    let some : 0 < length (take c.in-Ok.count (c.take.new.into ++ drop c.request-asked.result c.pieces.chunk)) = omega (arith, c.if-count-eq0.false, c.in-Ok.ensures.within, length-take c.in-Ok.count (c.take.new.into ++ drop c.request-asked.result c.pieces.chunk), length-append c.take.new.into (drop c.request-asked.result c.pieces.chunk)) in
+    let early = c.request-asked.ensures.early (omega (arith, c.if-asked-eq0.false)) in
+    omega (arith, some, early, c.take_piece.ensures.counted)

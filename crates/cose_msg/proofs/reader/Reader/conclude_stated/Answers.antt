@@ -1,4 +1,5 @@
 use Rattle.std.proofs.Common.{rules, ◌≡◌, true, false, None, sym, ap, refl, ◌∙◌, arith}
+use Rattle.std.proofs.lemmas.Bool.{false≢true, true≢false}
 use Rattle.std.proofs.lemmas.Grind.{common_steps}
 use Rattle.cose_msg.specs.Kept.{verdict_in}
 use Rattle.cose_msg.specs.Elsewhere.{stated_by, then_authenticated}
@@ -25,7 +26,7 @@ returns-in-Some-clause-untouched g c = λ none untouched. untouched
 
 pub returns-in-Signed-clause-untouched : goal.returns-in-Signed-clause-untouched
 returns-in-Signed-clause-untouched g c = λ none untouched.
-    let clash : true ≡ false = sym (ap awaits_decision c.in-Signed.is) ∙ untouched_is_undecided c.args.self.now untouched in absurd cc
+    absurd (true≢false (sym (ap awaits_decision c.in-Signed.is) ∙ untouched_is_undecided c.args.self.now untouched))
 
 pub returns-in_default-phase : goal.returns-in_default-phase
 returns-in_default-phase g c =
@@ -39,7 +40,7 @@ returns-in_default-phase g c =
       shown = same.shown no_input;
       held = same.held;
       opened = same.opened;
-      complete = λ awaits. let clash : false ≡ true = sym undecided ∙ awaits in absurd cc;
+      complete = λ awaits. absurd (false≢true (sym undecided ∙ awaits));
       answer = λ setting B reading h came. rw (c.lemma_reading_so_far.ensures.ended (to_verify_elsewhere setting) B _ reading h came (reads_on_unstated setting h none undecided), same.same, c.ends_at-place.ensures) refl;
       untouched = λ none untouched. same.untouched (c.ends_at-place.ensures ∙ untouched_ends c.args.self.now c.args.taken untouched ∙ none) untouched;
     }

@@ -1,5 +1,5 @@
 use Rattle.std.proofs.lemmas.Grind.{common_steps}
-use Rattle.std.proofs.Common.{◌≡◌, ◌<◌, ◌++◌, sym, ◌∙◌, arith}
+use Rattle.std.proofs.Common.{◌≡◌, ◌<◌, ◌||◌, ◌++◌, Bool, false, inl, inr, refl, sym, ap, ◌∙◌, arith}
 use Rattle.std.proofs.lemmas.Result.{err_from_is_err_and}
 use Rattle.cose_msg.specs.Message.{message}
 use Rattle.cose_msg.specs.Run.{stop_in}
@@ -7,7 +7,15 @@ use Rattle.cose_msg.specs.Status.{payload_wanted_in}
 use Rattle.cose_msg.specs.Task.{given_to, rules_of}
 use Rattle.cose_msg.proofs.lemmas.Detached.BothAnswered.{is_of_detached}
 use Rattle.cose_msg.proofs.lemmas.Detached.BothTaken.{all_there, detached_given, ended_in_payload, none_awaited, settled_awaiting, stopped_before_nil, stopped_in_payload, taken_alone, took_or_stopped}
+use Rattle.cose_msg.proofs.lemmas.Deciding.KeptAnswers.{unfailed}
 use Rattle.cose_msg.proofs.run.detached.take_detached.Goals as goal
+
+-- A call that stopped for nothing, and one after it.
+same : (old new : Bool) → new ≡ (old || false) → new ≡ old
+same old new e = e ∙ sym (unfailed old false refl)
+
+then_failed : (old new later stops : Bool) → new ≡ (old || false) → later ≡ (new || stops) → later ≡ (old || stops)
+then_failed old new later stops first second = second ∙ ap (λ (failed : Bool). failed || stops) (same old new first)
 
 pub returns-in_err-take_message-clause-takes : goal.returns-in_err-take_message-clause-takes
 returns-in_err-take_message-clause-takes g c = λ task s B h.
@@ -135,3 +143,39 @@ returns-clause-stopped g c = grind (arith, common_steps)
 
 pub returns-clause-once : goal.returns-clause-once
 returns-clause-once g c = grind (arith, common_steps)
+
+pub returns-in_err-take_message-clause-intake_failure : goal.returns-in_err-take_message-clause-intake_failure
+returns-in_err-take_message-clause-intake_failure g c = let p = err_from_is_err_and c.from_residual.result c.from_residual.ensures.1 in rw (p.1, p.2) (inl (c.in_err-take_message.ensures.intake_failure, refl))
+
+pub returns-in_err-take_message-clause-sink_failure : goal.returns-in_err-take_message-clause-sink_failure
+returns-in_err-take_message-clause-sink_failure g c = let p = err_from_is_err_and c.from_residual.result c.from_residual.ensures.1 in rw (p.1, p.2) c.in_err-take_message.ensures.sink_failure
+
+pub returns-then-payload_wanted-eq0-clause-stopped : goal.returns-then-payload_wanted-eq0-clause-stopped
+returns-then-payload_wanted-eq0-clause-stopped g c = c.in_ok-take_message.ensures.stopped
+
+pub returns-then-payload_wanted-eq0-clause-intake_failure : goal.returns-then-payload_wanted-eq0-clause-intake_failure
+returns-then-payload_wanted-eq0-clause-intake_failure g c = inl (c.in_ok-take_message.ensures.intake_failure, refl)
+
+pub returns-then-payload_wanted-eq0-clause-sink_failure : goal.returns-then-payload_wanted-eq0-clause-sink_failure
+returns-then-payload_wanted-eq0-clause-sink_failure g c = c.in_ok-take_message.ensures.sink_failure
+
+pub returns-in_err-take_payload-clause-intake_failure : goal.returns-in_err-take_payload-clause-intake_failure
+returns-in_err-take_payload-clause-intake_failure g c = let p = err_from_is_err_and c.from_residual-in_err-take_payload.result c.from_residual-in_err-take_payload.ensures.1 in rw (p.1, p.2) (inr (same _ _ c.in_ok-take_message.ensures.intake_failure, c.in_err-take_payload.ensures.payload_failure))
+
+pub returns-in_err-take_payload-clause-sink_failure : goal.returns-in_err-take_payload-clause-sink_failure
+returns-in_err-take_payload-clause-sink_failure g c = let p = err_from_is_err_and c.from_residual-in_err-take_payload.result c.from_residual-in_err-take_payload.ensures.1 in rw (p.1, p.2) (then_failed _ _ _ _ c.in_ok-take_message.ensures.sink_failure c.in_err-take_payload.ensures.sink_failure)
+
+pub returns-then-payload_wanted-gt0-clause-stopped : goal.returns-then-payload_wanted-gt0-clause-stopped
+returns-then-payload_wanted-gt0-clause-stopped g c = c.in_ok-take_payload.ensures.stopped
+
+pub returns-then-payload_wanted-gt0-clause-intake_failure : goal.returns-then-payload_wanted-gt0-clause-intake_failure
+returns-then-payload_wanted-gt0-clause-intake_failure g c = inr (same _ _ c.in_ok-take_message.ensures.intake_failure, c.in_ok-take_payload.ensures.payload_failure)
+
+pub returns-then-payload_wanted-gt0-clause-sink_failure : goal.returns-then-payload_wanted-gt0-clause-sink_failure
+returns-then-payload_wanted-gt0-clause-sink_failure g c = then_failed _ _ _ _ c.in_ok-take_message.ensures.sink_failure c.in_ok-take_payload.ensures.sink_failure
+
+pub returns-clause-intake_failure : goal.returns-clause-intake_failure
+returns-clause-intake_failure g c = inl (then_failed _ _ _ _ c.in_ok-take_message.ensures.intake_failure c.take_message-result.ensures.intake_failure, same _ _ c.in_ok-take_payload.ensures.payload_failure)
+
+pub returns-clause-sink_failure : goal.returns-clause-sink_failure
+returns-clause-sink_failure g c = then_failed _ _ _ _ (then_failed _ _ _ false c.in_ok-take_message.ensures.sink_failure c.in_ok-take_payload.ensures.sink_failure) c.take_message-result.ensures.sink_failure

@@ -1,4 +1,5 @@
-use Rattle.std.proofs.Common.{◌≡◌, ℕ, ◌+◌, ◌<◌, ◌≤◌, List, ◌++◌, length, take, drop, refl, sym, ◌∙◌, arith, length-append}
+use Rattle.std.proofs.Common.{◌≡◌, ℕ, ◌+◌, ◌<◌, ◌≤◌, ◌||◌, Bool, true, false, List, ◌++◌, length, take, drop, refl, sym, ◌∙◌, arith, length-append}
+use Rattle.std.proofs.Math.Bool.{or-true}
 use Rattle.std.proofs.lemmas.Grind.{common_steps}
 use Rattle.std.proofs.lemmas.List.{length-drop, length-take}
 use Rattle.std.proofs.KnownBytes.{Consumes-nil}
@@ -190,3 +191,9 @@ stop-requires g c = grind (arith, common_steps)
 
 pub stop-requires-then-is_err : goal.stop-requires-then-is_err
 stop-requires-then-is_err g c = grind (arith, common_steps)
+
+pub returns-in-Err-clause-payload_failure : goal.returns-in-Err-clause-payload_failure
+returns-in-Err-clause-payload_failure g c = c.in-Err.ensures.failure ∙ sym (or-true _)
+
+pub returns-then-count-eq0-clause-payload_failure : goal.returns-then-count-eq0-clause-payload_failure
+returns-then-count-eq0-clause-payload_failure g c = c.in-Ok.ensures.failure ∙ c.pieces.invariant.5 ∙ unfailed _ _ refl

@@ -1,4 +1,4 @@
-use Rattle.std.proofs.Common.{◌++◌, sym, ap, ◌∙◌, arith}
+use Rattle.std.proofs.Common.{◌++◌, inl, refl, sym, ap, ◌∙◌, arith}
 use Rattle.std.proofs.lemmas.Grind.{common_steps}
 use Rattle.std.specs.Prelude.{is_err}
 use Rattle.cose_msg.specs.Kept.{verdict_in}
@@ -7,7 +7,7 @@ use Rattle.cose_msg.specs.Task.{to_verify}
 use Rattle.cose_msg.proofs.lemmas.Run.Answered.{kept_verdict_settles, still}
 use Rattle.cose_msg.proofs.lemmas.Detached.BothAnswered.{done_wants_none, is_of_detached, kept_on_both, of_both, stopped_on_both, verdict_on_both}
 use Rattle.cose_msg.proofs.lemmas.Detached.BothTaken.{none_awaited}
-use Rattle.cose_msg.proofs.lemmas.Deciding.KeptAnswers.{kept_again, kept_stop}
+use Rattle.cose_msg.proofs.lemmas.Deciding.KeptAnswers.{kept_again, kept_intake, kept_sink, kept_stop, unfailed}
 use Rattle.cose_msg.proofs.lemmas.Run.Purposes.{then_same_task, unchanged}
 use Rattle.cose_msg.proofs.lemmas.Run.Runs.{counted_meaning, so_far_before}
 use Rattle.cose_msg.proofs.lemmas.Feeding.Statuses.{left_by_answer, left_by_kept, left_by_stop}
@@ -110,3 +110,18 @@ returns-in-Err-clause-stopped g c = grind (arith, common_steps)
 
 pub returns-in-Err-clause-sink_failure : goal.returns-in-Err-clause-sink_failure
 returns-in-Err-clause-sink_failure g c = grind (arith, common_steps)
+
+pub returns-in-Some-clause-intake_failure : goal.returns-in-Some-clause-intake_failure
+returns-in-Some-clause-intake_failure g c = inl (unfailed _ _ (kept_intake c.args.verifier.now.stopped (verdict_in c.args.verifier.now.reader.phase) c.in-Some.answer (sym c.kept_answer.ensures ∙ c.in-Some.is)), refl)
+
+pub returns-in-Some-clause-sink_failure : goal.returns-in-Some-clause-sink_failure
+returns-in-Some-clause-sink_failure g c = unfailed _ _ (kept_sink c.args.verifier.now.stopped (verdict_in c.args.verifier.now.reader.phase) c.in-Some.answer (sym c.kept_answer.ensures ∙ c.in-Some.is))
+
+pub returns-in-Some-clause-sure : goal.returns-in-Some-clause-sure
+returns-in-Some-clause-sure g c = λ setting s B h enough. kept_sink c.args.verifier.now.stopped (verdict_in c.args.verifier.now.reader.phase) c.in-Some.answer (sym c.kept_answer.ensures ∙ c.in-Some.is)
+
+pub returns-in-Ok-clause-intake_failure : goal.returns-in-Ok-clause-intake_failure
+returns-in-Ok-clause-intake_failure g c = c.in-Ok.ensures.intake_failure
+
+pub returns-in-Err-clause-intake_failure : goal.returns-in-Err-clause-intake_failure
+returns-in-Err-clause-intake_failure g c = c.in-Err.ensures.intake_failure

@@ -1,4 +1,5 @@
 use Rattle.std.proofs.Common.{arith, ◌≡◌, true, false, refl, sym, ap, ◌∙◌}
+use Rattle.std.proofs.lemmas.Bool.{true≢false}
 use Rattle.cose_msg.specs.Phase.{ends_at}
 use Rattle.cose_msg.specs.Reading.{Reading}
 use Rattle.cose_msg.specs.Status.{is_open, status_of_phase, status_of_answer}
@@ -37,7 +38,7 @@ returns-in-More-clause-awaiting g c = λ task s B h awaits.
 
 pub returns-in-More-clause-again : goal.returns-in-More-clause-again
 returns-in-More-clause-again g c = λ closed.
-    let clash : true ≡ false = sym (ap is_open (sym c.status.ensures.value) ∙ either_is_open c.status.result c.in-More.is) ∙ closed in absurd cc
+    absurd (true≢false (sym (ap is_open (sym c.status.ensures.value) ∙ either_is_open c.status.result c.in-More.is) ∙ closed))
 
 pub returns-in-More-clause-purpose : goal.returns-in-More-clause-purpose
 returns-in-More-clause-purpose g c = rw c.truncate.ensures.terms refl

@@ -1,4 +1,5 @@
-use Rattle.std.proofs.Common.{◌≡◌, ◌-◌, ◌<◌, ℕ, true, false, List, ◌++◌, length, take, refl, sym, ap, subst, ◌∙◌, arith}
+use Rattle.std.proofs.Common.{rules, ◌≡◌, ◌-◌, ◌<◌, ℕ, true, false, List, ◌++◌, length, take, refl, sym, ap, subst, ◌∙◌, arith}
+use Rattle.std.proofs.lemmas.Bool.{true≢false}
 use Rattle.std.proofs.lemmas.List.{length-take-le}
 use Rattle.std.proofs.Math.Seq.{take-length}
 use Rattle.cose_msg.specs.declared.verifier.Verifier.{Verifier}
@@ -23,6 +24,11 @@ took_all : {H D : ℕ} {S : Type 0} {K : _} {task : Task} (s B : List ℕ) (v : 
 took_all {H} {D} {S} {K} {task} s B v piece h =
     let grown : HasTaken task (s ++ piece) (B ++ take (length piece - 0) piece) v = subst (λ (t : List ℕ). HasTaken task (s ++ piece) (B ++ t) v) (sym (all_of piece)) h in
     subst (λ (t : List ℕ). HasTaken task (s ++ t) (B ++ take (length piece - 0) piece) v) (sym (take-length piece)) grown
+
+pub take_payload_part-requires : goal.take_payload_part-requires
+take_payload_part-requires g c κs =
+    let more = c.if-has_more_payload_than.true in
+    (search rules, ((refl, tt), (c.has_more_payload_than.ensures.some more, (c.has_more_payload_than.ensures.fewer more, (c.has_more_payload_than.ensures.inside more, c.has_more_payload_than.ensures.early more)))))
 
 pub returns-then-has_more_payload_than-clause-uses : goal.returns-then-has_more_payload_than-clause-uses
 returns-then-has_more_payload_than-clause-uses g c = λ task s B h. record {
@@ -76,8 +82,7 @@ returns-then-has_more_payload_than-clause-counted g c = c.take_payload_part.ensu
 pub returns-then-has_more_payload_than-clause-again : goal.returns-then-has_more_payload_than-clause-again
 returns-then-has_more_payload_than-clause-again g c = λ none.
     let more : status_in c.args.self.now ≡ More = status_going c.args.self.now More (c.has_more_payload_than.ensures.goes_on c.if-has_more_payload_than.true) (payload_is_more c.args.self.now.reader.phase (c.has_more_payload_than.ensures.inside c.if-has_more_payload_than.true)) in
-    let clash : true ≡ false = sym (ap is_more more) ∙ none in
-    absurd cc
+    absurd (true≢false (sym (ap is_more more) ∙ none))
 
 pub returns-then-has_more_payload_than-clause-purpose : goal.returns-then-has_more_payload_than-clause-purpose
 returns-then-has_more_payload_than-clause-purpose g c = c.take_payload_part.ensures.purpose

@@ -1,4 +1,5 @@
-use Rattle.std.proofs.Common.{◌≡◌, ℕ, List, [], ◌++◌, length, take, refl, sym, ap, subst, ◌∙◌, append_assoc, arith}
+use Rattle.std.proofs.Common.{◌≡◌, ◌+◌, ◌<◌, ℕ, Bool, true, false, cond, List, [], ◌++◌, length, take, refl, sym, ap, subst, ◌∙◌, append_assoc, arith}
+use Rattle.std.proofs.lemmas.List.{length-take}
 use Rattle.std.proofs.lemmas.Grind.{common_steps}
 use Rattle.cose_msg.specs.Kept.{HasTaken}
 use Rattle.cose_msg.specs.Reader.{SoFar}
@@ -14,6 +15,15 @@ use Rattle.cose_msg.proofs.lemmas.Deciding.PhaseCases.{not_awaiting}
 use Rattle.cose_msg.proofs.lemmas.Feeding.Statuses.{none_wanted, some_wanted}
 use Rattle.cose_msg.proofs.lemmas.Deciding.Untouched.{untouched_awaits_none}
 use Rattle.cose_msg.proofs.verifier.Verifier.feed_payload.Goals as goal
+
+-- A verifier that wants bytes of a payload hasn't stopped.
+goes_on : (stopped : Bool) (wanted : ℕ) → 0 < cond stopped 0 wanted → stopped ≡ false
+goes_on true wanted some = absurd (omega (arith, some))
+goes_on false wanted some = refl
+
+left_of : (stopped : Bool) (next count before : ℕ) → stopped ≡ false → next + count ≡ before → cond stopped 0 next + count ≡ before
+left_of true next count before e left = absurd cc
+left_of false next count before e left = left
 
 pub returns-in-Detached-clause-taken : goal.returns-in-Detached-clause-taken
 returns-in-Detached-clause-taken g c = λ task s B h.
@@ -69,3 +79,16 @@ invariant_of-self-clause-held g c = c.detached_piece.ensures.held
 
 pub invariant_of-self-clause-opened : goal.invariant_of-self-clause-opened
 invariant_of-self-clause-opened g c = c.detached_piece.ensures.opened
+
+pub returns-in-Detached-clause-left : goal.returns-in-Detached-clause-left
+returns-in-Detached-clause-left g c =
+    let wanted : payload_wanted_in c.args.self.now ≡ c.in-Detached.detached.left = some_wanted c.args.self.now.stopped (payload_want_of c.args.self.now.reader.phase) c.requires.some ∙ ap payload_want_of c.in-Detached.is in
+    let size : length (take c.min-count.result c.args.piece.now) ≡ c.min-count.result = omega (arith, c.min-count.ensures, length-take c.min-count.result c.args.piece.now) in
+    let left : payload_want_of c.detached_piece.new.self.phase + c.min-count.result ≡ payload_wanted_in c.args.self.now = omega (arith, size, wanted, c.detached_piece.ensures.left) in
+    left_of c.args.self.now.stopped _ _ _ (goes_on c.args.self.now.stopped _ c.requires.some) left
+
+pub returns-in-Detached-clause-further : goal.returns-in-Detached-clause-further
+returns-in-Detached-clause-further g c = rw (goes_on c.args.self.now.stopped _ c.requires.some) c.detached_piece.ensures.further
+
+pub returns-in-Detached-clause-complete : goal.returns-in-Detached-clause-complete
+returns-in-Detached-clause-complete g c = rw (goes_on c.args.self.now.stopped _ c.requires.some) c.detached_piece.ensures.complete

@@ -1,4 +1,5 @@
 use Rattle.std.proofs.Common.{List, None, Option, Some, ap, false, sym, true, ℕ, ◌≡◌, ◌∙◌}
+use Rattle.std.proofs.lemmas.Bool.{true≢false}
 use Rattle.cosecmd.specs.Payload.{detached_in, is_in_file}
 use Rattle.cosecmd.specs.Printed.{answered_under}
 use Rattle.cosecmd.specs.Under.{under_of}
@@ -34,4 +35,4 @@ returns-in-File-clause-says g c = λ bytes detached e known.
     says_equal_words _ same (c.reply_from_file.ensures.says bytes part.0 (c.new-intake.ensures.known ∙ e) part.1)
 
 pub returns-in-File-clause-keys : goal.returns-in-File-clause-keys
-returns-in-File-clause-keys g c = λ other. let no : true ≡ false = sym (ap is_in_file c.in-File.is) ∙ other in absurd cc
+returns-in-File-clause-keys g c = λ other. absurd (true≢false (sym (ap is_in_file c.in-File.is) ∙ other))

@@ -1,4 +1,5 @@
 use Rattle.std.proofs.Common.{◌≡◌, ◌∙◌, ap, false, inr, refl, true}
+use Rattle.std.proofs.lemmas.Bool.{false≢true}
 use Rattle.cosecmd.specs.Printed.{code_of}
 use Rattle.cosecmd.proofs.lemmas.Payloads.KeptPayloads.{file_line, holds_payload, none_made, stands, stands_removed, taken_before}
 use Rattle.cosecmd.proofs.lemmas.Messages.Replies.{line_fails}
@@ -36,8 +37,7 @@ returns-clause-unmade g c = λ same.
 pub returns-clause-taken : goal.returns-clause-taken
 returns-clause-taken g c = λ taken.
     let made = g.N.NewFiles.made in
-    let no : false ≡ true = c.in-Ok.ensures.taken (taken_before (made c.new_file.new.files) (made c.answer_to_new_file.new.files) c.answer_to_new_file.ensures.settled taken) in
-    absurd cc
+    absurd (false≢true (c.in-Ok.ensures.taken (taken_before (made c.new_file.new.files) (made c.answer_to_new_file.new.files) c.answer_to_new_file.ensures.settled taken)))
 
 pub returns-in-Err-clause-unmade : goal.returns-in-Err-clause-unmade
 returns-in-Err-clause-unmade g c = λ same.
