@@ -4,8 +4,9 @@ use Rattle.std.specs.Prelude.{Result, IsOk, if◌then◌else◌}
 use Rattle.std.specs.Io.KnownBytes.{Appends}
 use Rattle.std.proofs.KnownBytes.{Consumes-nil, Appends-trans}
 use Rattle.std.proofs.Math.Seq.{take-append_seam}
-use Rattle.std.proofs.lemmas.Bool.{le-ltb}
+use Rattle.std.proofs.lemmas.Bool.{false≢true, le-ltb, true≢false}
 use Rattle.std.proofs.lemmas.List.{nil_from_length}
+use Rattle.std.proofs.lemmas.Option.{none-some}
 use Rattle.cose_head.specs.Algorithm.{is_mac_of}
 use Rattle.cose_head.specs.Head.{shortest_head}
 use Rattle.cose_head.specs.declared.algorithm.Alg.{Alg}
@@ -24,6 +25,23 @@ use Rattle.cose_msg.specs.Sink.{AppendsFront, IsPrefix}
 use Rattle.cose_msg.proofs.lemmas.Made.Making.{in_parts}
 use Rattle.cose_msg.proofs.lemmas.Made.Puts.{front_of_more}
 use Rattle.cose_msg.proofs.lemmas.Run.Runs.{AppendsFront-then}
+
+-- The fault of the arguments, from what is known of the key and of the lengths.
+pub wrong_key : (fits : Bool) (own : List ℕ) (other : Option MakeFault) → None ≡ (if fits then Some own else None) → Some faults.WrongKey ≡ (if fits then other else Some faults.WrongKey)
+wrong_key true own other e = absurd (none-some own e)
+wrong_key false own other e = refl
+
+pub too_long : (fits long : Bool) (secret own : List ℕ) → Some secret ≡ (if fits then Some own else None) → long ≡ true →
+    Some faults.TooLong ≡ (if fits then (if long then Some faults.TooLong else None) else Some faults.WrongKey)
+too_long true true secret own e is_long = refl
+too_long true false secret own e is_long = absurd (false≢true is_long)
+too_long false long secret own e is_long = absurd (none-some secret (sym e))
+
+pub no_fault : (fits long : Bool) (secret own : List ℕ) → Some secret ≡ (if fits then Some own else None) → long ≡ false →
+    None ≡ (if fits then (if long then Some faults.TooLong else None) else Some faults.WrongKey)
+no_fault true true secret own e is_short = absurd (true≢false is_short)
+no_fault true false secret own e is_short = refl
+no_fault false long secret own e is_short = absurd (none-some secret (sym e))
 
 -- The message of each payload of this length is this prefix, the payload, and what follows it.
 abbrev pub IsInParts : (List ℕ → List ℕ) → ℕ → List ℕ → (List ℕ → List ℕ) → Type 0

@@ -1,4 +1,5 @@
-use Rattle.std.proofs.Common.{◌≤◌, sym, ◌∙◌, arith}
+use Rattle.std.proofs.Common.{◌≤◌, refl, sym, ◌∙◌, arith}
+use Rattle.std.proofs.Math.Bool.{or-false, or-true}
 use Rattle.std.proofs.lemmas.Grind.{common_steps}
 use Rattle.std.proofs.lemmas.List.{length-take}
 use Rattle.cose_msg.proofs.lemmas.Run.Runs.{first_of, is_done, marks_nothing, promise_kept, put_done, put_failed}
@@ -31,16 +32,29 @@ pub pieces-init : goal.pieces-init
 pieces-init g c = grind (arith, common_steps)
 
 pub returns-then-left-eq0-clause-streams : goal.returns-then-left-eq0-clause-streams
-returns-then-left-eq0-clause-streams g c = grind (arith, common_steps)
+returns-then-left-eq0-clause-streams g c =
+    let a = c.pieces.invariant.0 in (
+      a.taken,
+      record {
+        bytes = a.bytes;
+        count = omega (arith, a.count, c.if-left-eq0.true);
+        put = a.put;
+        answer = refl;
+        fed = λ done. a.feeds;
+        failure = a.failure ∙ sym (or-false _);
+        promised = λ enough. refl;
+        promise = omega (arith, a.promise, a.count, c.if-left-eq0.true);
+      },
+    )
 
 pub returns-then-left-eq0-clause-intake_failure : goal.returns-then-left-eq0-clause-intake_failure
-returns-then-left-eq0-clause-intake_failure g c = grind (arith, common_steps)
+returns-then-left-eq0-clause-intake_failure g c = c.pieces.invariant.1 ∙ sym (or-false _)
 
 pub returns-in-Err-clause-streams : goal.returns-in-Err-clause-streams
 returns-in-Err-clause-streams g c = grind (arith, common_steps)
 
 pub returns-in-Err-clause-intake_failure : goal.returns-in-Err-clause-intake_failure
-returns-in-Err-clause-intake_failure g c = grind (arith, common_steps)
+returns-in-Err-clause-intake_failure g c = c.in-Err.ensures.failure ∙ sym (or-true _)
 
 pub returns-then-count-eq0-clause-streams : goal.returns-then-count-eq0-clause-streams
 returns-then-count-eq0-clause-streams g c = grind (arith, common_steps)
@@ -49,10 +63,10 @@ pub shared_whole_as_front-piece : goal.shared_whole_as_front-piece
 shared_whole_as_front-piece g c = grind (arith, common_steps)
 
 pub overflow_sub-left : goal.overflow_sub-left
-overflow_sub-left g c = grind (arith, common_steps)
+overflow_sub-left g c = omega (arith, c.take.auto.into, c.in-Ok.ensures.within, c.min-asked.ensures, length-take c.min-asked.result c.pieces.chunk)
 
 pub returns-then-is_err-clause-intake_failure : goal.returns-then-is_err-clause-intake_failure
-returns-then-is_err-clause-intake_failure g c = grind (arith, common_steps)
+returns-then-is_err-clause-intake_failure g c = c.in-Ok.ensures.failure ∙ c.pieces.invariant.1 ∙ sym (or-false _)
 
 pub pieces-smaller : goal.pieces-smaller
-pieces-smaller g c = grind (arith, common_steps)
+pieces-smaller g c = omega (arith, c.take.auto.into, c.in-Ok.ensures.within, c.min-asked.ensures, length-take c.min-asked.result c.pieces.chunk, c.if-count-eq0.false)

@@ -1,4 +1,4 @@
-use Rattle.std.proofs.Common.{◌≡◌, ◌∙◌, ℕ, List, ap, inl, inr, refl, rules}
+use Rattle.std.proofs.Common.{◌≡◌, ◌∙◌, ℕ, List, ap, inl, inr, refl}
 use Rattle.cose_text.specs.TextInput.{reader_of}
 use Rattle.cosecmd.specs.CommandLine.{AsksFor, begins_as_answer}
 use Rattle.cosecmd.specs.InputForm.{input_bytes}
@@ -15,20 +15,20 @@ use Rattle.cosecmd.proofs.run.run_with_files.Goals as goal
 pub returns-in-Ok-clause-asked : goal.returns-in-Ok-clause-asked
 returns-in-Ok-clause-asked g c = λ well.
     let met = c.in-Ok-Matches in
-    let is : met.field-0 ≡ Matches met.matches = search rules in
+    let is : met.field-0 ≡ Matches met.matches = met.field-0-is in
     inr (met.matches, found_in _ met.field-0 met.matches is met.ensures, c.in-Ok.request, record { payload = c.in-Ok.ensures.payload; making = c.in-Ok.ensures.making; sequence = c.in-Ok.ensures.sequence })
 
 pub returns-in-Ok-Text-clause-asked : goal.returns-in-Ok-Text-clause-asked
 returns-in-Ok-Text-clause-asked g c = λ well.
     let met = c.in-Ok-Text in
-    let is : met.field-0 ≡ Text met.reply = search rules in
+    let is : met.field-0 ≡ Text met.reply = met.field-0-is in
     let read = text_read _ met.field-0 met.reply is met.ensures in
     inl (asked_where_well _ met.reply.status c.print.result read.0 c.print.ensures.status read.2 (rw (← c.code-in-Ok-Text.ensures) well))
 
 pub returns-in-Ok-clause-printed : goal.returns-in-Ok-clause-printed
 returns-in-Ok-clause-printed g c = λ bytes e.
     let met = c.in-Ok-Matches in
-    let is : met.field-0 ≡ Matches met.matches = search rules in
+    let is : met.field-0 ≡ Matches met.matches = met.field-0-is in
     let read = input_bytes met.matches bytes in
     let known = read_of g.R.Read.remaining c.input_form_of.result _ _ _ _ bytes c.read_as.ensures.next c.read_as.ensures.reader c.input_form_of.ensures e in
     inr (
@@ -43,7 +43,7 @@ returns-in-Ok-clause-printed g c = λ bytes e.
 pub returns-in-Ok-clause-fails : goal.returns-in-Ok-clause-fails
 returns-in-Ok-clause-fails g c = λ bytes e two.
     let met = c.in-Ok-Matches in
-    let is : met.field-0 ≡ Matches met.matches = search rules in
+    let is : met.field-0 ≡ Matches met.matches = met.field-0-is in
     let read = input_bytes met.matches bytes in
     let known = read_of g.R.Read.remaining c.input_form_of.result _ _ _ _ bytes c.read_as.ensures.next c.read_as.ensures.reader c.input_form_of.ensures e in
     inr (inr (
@@ -71,7 +71,7 @@ returns-in-Ok-clause-fails g c = λ bytes e two.
 pub returns-in-Ok-clause-new_file : goal.returns-in-Ok-clause-new_file
 returns-in-Ok-clause-new_file g c =
     let met = c.in-Ok-Matches in
-    let is : met.field-0 ≡ Matches met.matches = search rules in
+    let is : met.field-0 ≡ Matches met.matches = met.field-0-is in
     inr (
       met.matches,
       found_in _ met.field-0 met.matches is met.ensures,
@@ -81,7 +81,7 @@ returns-in-Ok-clause-new_file g c =
 pub returns-in-Ok-clause-payload : goal.returns-in-Ok-clause-payload
 returns-in-Ok-clause-payload g c = λ bytes e is_known.
     let met = c.in-Ok-Matches in
-    let is : met.field-0 ≡ Matches met.matches = search rules in
+    let is : met.field-0 ≡ Matches met.matches = met.field-0-is in
     let read = input_bytes met.matches bytes in
     let known = read_of g.R.Read.remaining c.input_form_of.result _ _ _ _ bytes c.read_as.ensures.next c.read_as.ensures.reader c.input_form_of.ensures e in
     inr (
@@ -94,7 +94,7 @@ returns-in-Ok-clause-payload g c = λ bytes e is_known.
 pub returns-in-Ok-clause-unread : goal.returns-in-Ok-clause-unread
 returns-in-Ok-clause-unread g c =
     let met = c.in-Ok-Matches in
-    let is : met.field-0 ≡ Matches met.matches = search rules in
+    let is : met.field-0 ≡ Matches met.matches = met.field-0-is in
     inr (
       met.matches,
       found_in _ met.field-0 met.matches is met.ensures,
@@ -106,7 +106,7 @@ returns-in-Ok-clause-unread g c =
 pub returns-in-Ok-Text-clause-printed : goal.returns-in-Ok-Text-clause-printed
 returns-in-Ok-Text-clause-printed g c = λ bytes e.
     let met = c.in-Ok-Text in
-    let is : met.field-0 ≡ Text met.reply = search rules in
+    let is : met.field-0 ≡ Text met.reply = met.field-0-is in
     let read = text_read _ met.field-0 met.reply is met.ensures in
     let unlike = ap begins_as_answer c.as_str.ensures.value ∙ read.1 in
     rw c.code-in-Ok-Text.ensures (inl (c.as_str.result.now, unlike, asked_where_well _ met.reply.status c.print.result read.0 c.print.ensures.status read.2, ends_with_text _ _ c.as_str.result.now met.reply.status c.print.result read.0 c.print.ensures.status c.print.ensures.written))
@@ -114,7 +114,7 @@ returns-in-Ok-Text-clause-printed g c = λ bytes e.
 pub returns-in-Ok-Text-clause-fails : goal.returns-in-Ok-Text-clause-fails
 returns-in-Ok-Text-clause-fails g c = λ bytes e two.
     let met = c.in-Ok-Text in
-    let is : met.field-0 ≡ Text met.reply = search rules in
+    let is : met.field-0 ≡ Text met.reply = met.field-0-is in
     let read = text_read _ met.field-0 met.reply is met.ensures in
     inr (inl (c.as_str.result.now, ap begins_as_answer c.as_str.ensures.value ∙ read.1, c.print.ensures.front))
 
@@ -124,13 +124,13 @@ returns-in-Ok-Matches-clause-fails g c = λ bytes e two. inl (some_line _ _ _ c.
 pub returns-in-Ok-Text-clause-new_file : goal.returns-in-Ok-Text-clause-new_file
 returns-in-Ok-Text-clause-new_file g c =
     let met = c.in-Ok-Text in
-    let is : met.field-0 ≡ Text met.reply = search rules in
+    let is : met.field-0 ≡ Text met.reply = met.field-0-is in
     let read = text_read _ met.field-0 met.reply is met.ensures in
     rw c.code-in-Ok-Text.ensures (inl (refl, asked_where_well _ met.reply.status c.print.result read.0 c.print.ensures.status read.2))
 
 pub returns-in-Ok-Text-clause-payload : goal.returns-in-Ok-Text-clause-payload
 returns-in-Ok-Text-clause-payload g c = λ bytes e is_known.
     let met = c.in-Ok-Text in
-    let is : met.field-0 ≡ Text met.reply = search rules in
+    let is : met.field-0 ≡ Text met.reply = met.field-0-is in
     let read = text_read _ met.field-0 met.reply is met.ensures in
     rw c.code-in-Ok-Text.ensures (inl (asked_where_well _ met.reply.status c.print.result read.0 c.print.ensures.status read.2))

@@ -1,4 +1,4 @@
-use Rattle.std.proofs.Common.{◌≡◌, ◌∙◌, ◌^◌, ◌+◌, arith, ◌||◌, ◌&&◌, IsTrue, [], ◌++◌, subst, append-nil, Bool, true, false, nat_le, nat_lt, length, List, ℕ, None, Some, Err, is_some, option_map, if◌then◌else◌, refl, sym, ap}
+use Rattle.std.proofs.Common.{◌≡◌, ◌∙◌, ◌^◌, ◌+◌, arith, ◌||◌, ◌&&◌, IsTrue, [], ◌++◌, subst, append-nil, Bool, true, false, nat_le, nat_lt, length, List, ℕ, None, Some, Err, is_some, if◌then◌else◌, refl, sym, ap}
 use Rattle.std.proofs.lemmas.Bool.{false≢true}
 use Rattle.std.proofs.lemmas.Option.{none-some}
 use Rattle.cose_head.specs.declared.algorithm.Alg.{Alg}
@@ -7,33 +7,16 @@ use Rattle.cose_head.specs.Algorithm.{is_mac_of}
 use Rattle.cose_mac.specs.declared.running.Running.{Running}
 use Rattle.cose_mac.specs.Running.{FedMac}
 use Rattle.cose_mac.specs.Structure.{structure_front, structure_of}
-use Rattle.cose_map.specs.Key.View.{contents, key_value}
 use Rattle.cose_msg.specs.declared.make.MakeFault.{MakeFault}
 use Rattle.cose_msg.specs.declared.make.MakeFault.TheVariants.{TooLong, WrongKey}
 use Rattle.cose_msg.specs.Make.{is_too_long}
-use Rattle.cose_msg.specs.Making.{fits_making}
 use Rattle.cose_msg.specs.Maker.{begun_fault, stops_for_sink}
 use Rattle.cose_msg.proofs.lemmas.Deciding.KeptAnswers.{unfailed}
-use Rattle.cose_msg.proofs.lemmas.Made.Makes.{secret_is}
+use Rattle.cose_msg.proofs.lemmas.Made.Makes.{no_fault, secret_is, too_long, wrong_key}
 use Rattle.cose_msg.proofs.make.maker.Maker.begin.Goals as goal
 
--- The fault of the arguments, by whether a secret was found under the key.
-wrong_key : (fits long : Bool) (secret : List ℕ) → None ≡ (if fits then Some secret else None) → Some WrongKey ≡ (if fits then (if long then Some TooLong else None) else Some WrongKey)
-wrong_key true long secret e = absurd cc
-wrong_key false long secret e = refl
-
-too_long : (fits long : Bool) (secret got : List ℕ) → Some got ≡ (if fits then Some secret else None) → long ≡ true → Some TooLong ≡ (if fits then (if long then Some TooLong else None) else Some WrongKey)
-too_long true true secret got e is = refl
-too_long true false secret got e is = absurd cc
-too_long false long secret got e is = absurd cc
-
-no_fault : (fits long : Bool) (secret got : List ℕ) → Some got ≡ (if fits then Some secret else None) → long ≡ false → None ≡ (if fits then (if long then Some TooLong else None) else Some WrongKey)
-no_fault true true secret got e is = absurd cc
-no_fault true false secret got e is = refl
-no_fault false long secret got e is = absurd cc
-
 pub returns-in_default-clause-fault : goal.returns-in_default-clause-fault
-returns-in_default-clause-fault g c = wrong_key (fits_making (key_value c.args.key.now) c.args.alg) (is_too_long (option_map contents c.args.kid) c.args.aad.now c.args.length) _ (rw c.in_default.is at c.secret_for.ensures)
+returns-in_default-clause-fault g c = wrong_key _ _ _ (rw c.in_default.is at c.secret_for.ensures)
 
 pub returns-in_default-clause-untouched : goal.returns-in_default-clause-untouched
 returns-in_default-clause-untouched g c = λ e. refl
@@ -48,7 +31,7 @@ pub returns-in_default-clause-sure : goal.returns-in_default-clause-sure
 returns-in_default-clause-sure g c = λ enough e. absurd (none-some WrongKey (sym e))
 
 pub returns-then-is_too_long-clause-fault : goal.returns-then-is_too_long-clause-fault
-returns-then-is_too_long-clause-fault g c = too_long (fits_making (key_value c.args.key.now) c.args.alg) (is_too_long (option_map contents c.args.kid) c.args.aad.now c.args.length) _ c.in-Some.secret.now (rw c.in-Some.is at c.secret_for.ensures) (sym c.is_too_long.ensures ∙ c.if-is_too_long.true)
+returns-then-is_too_long-clause-fault g c = too_long _ _ _ _ (rw c.in-Some.is at c.secret_for.ensures) (sym c.is_too_long.ensures ∙ c.if-is_too_long.true)
 
 pub returns-then-is_too_long-clause-untouched : goal.returns-then-is_too_long-clause-untouched
 returns-then-is_too_long-clause-untouched g c = λ e. refl
@@ -63,7 +46,7 @@ pub returns-then-is_too_long-clause-sure : goal.returns-then-is_too_long-clause-
 returns-then-is_too_long-clause-sure g c = λ enough e. absurd (none-some TooLong (sym e))
 
 pub returns-in-Ok-clause-fault : goal.returns-in-Ok-clause-fault
-returns-in-Ok-clause-fault g c = no_fault (fits_making (key_value c.args.key.now) c.args.alg) (is_too_long (option_map contents c.args.kid) c.args.aad.now c.args.length) _ c.in-Some.secret.now (rw c.in-Some.is at c.secret_for.ensures) (sym c.is_too_long.ensures ∙ c.if-is_too_long.false)
+returns-in-Ok-clause-fault g c = no_fault _ _ _ _ (rw c.in-Some.is at c.secret_for.ensures) (sym c.is_too_long.ensures ∙ c.if-is_too_long.false)
 
 pub returns-in-Ok-clause-untouched : goal.returns-in-Ok-clause-untouched
 returns-in-Ok-clause-untouched g c = λ e. absurd (false≢true e)
@@ -98,7 +81,7 @@ returns-in-Ok-clause-failure g c = c.in-Ok.ensures.written.failure ∙ unfailed 
 pub returns-in-Err-clause-fault : goal.returns-in-Err-clause-fault
 returns-in-Err-clause-fault g c =
     ap (λ (fault : MakeFault). begun_fault (Err fault)) c.in-Err.ensures.written.put.1
-    ∙ no_fault (fits_making (key_value c.args.key.now) c.args.alg) (is_too_long (option_map contents c.args.kid) c.args.aad.now c.args.length) _ c.in-Some.secret.now (rw c.in-Some.is at c.secret_for.ensures) (sym c.is_too_long.ensures ∙ c.if-is_too_long.false)
+    ∙ no_fault _ _ _ _ (rw c.in-Some.is at c.secret_for.ensures) (sym c.is_too_long.ensures ∙ c.if-is_too_long.false)
 
 pub returns-in-Err-clause-untouched : goal.returns-in-Err-clause-untouched
 returns-in-Err-clause-untouched g c = λ e. absurd (false≢true (sym (ap (λ (fault : MakeFault). is_some (begun_fault (Err fault))) c.in-Err.ensures.written.put.1) ∙ e))
