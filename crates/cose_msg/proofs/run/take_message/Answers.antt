@@ -1,5 +1,5 @@
-use Rattle.std.proofs.Common.{◌≡◌, ℕ, ◌<◌, ◌≤◌, ◌||◌, rules, length-append, true, false, List, [], ◌++◌, length, take, drop, refl, sym, ◌∙◌, arith}
-use Rattle.std.proofs.lemmas.Bool.{true≢false}
+use Rattle.std.proofs.Common.{◌≡◌, ℕ, ◌<◌, ◌≤◌, rules, length-append, true, false, List, [], ◌++◌, length, take, drop, refl, sym, ◌∙◌, arith, ap}
+use Rattle.std.proofs.lemmas.Bool.{true≢false, false≢true}
 use Rattle.std.proofs.Math.Bool.{or-true}
 use Rattle.std.proofs.lemmas.Grind.{common_steps}
 use Rattle.std.proofs.lemmas.List.{length-drop, length-take}
@@ -12,6 +12,8 @@ use Rattle.cose_msg.proofs.lemmas.Run.Purposes.{same_setting_of, then_same_task}
 use Rattle.cose_msg.proofs.lemmas.Run.Runs.{at_start, concluded, first_of, goes_on, is_done, marks_fault, marks_nothing, none_apart, not_at_end, promise_kept, put_done, put_failed, put_none, sure_enough, settled_if_none_asked, stopped_by_intake, stopped_by_sink, take_short}
 use Rattle.cose_msg.proofs.lemmas.Deciding.KeptAnswers.{unfailed}
 use Rattle.cose_msg.proofs.run.take_message.Goals.{else-in_payload-via-then-in_payload+else-is_err, else-in_payload-via-else-in_payload}
+use Rattle.std.specs.Prelude.{is_err}
+use Rattle.cose_msg.specs.Run.{stops_for_intake, stops_for_sink}
 use Rattle.cose_msg.proofs.run.take_message.Goals as goal
 
 pub pieces-init : goal.pieces-init
@@ -136,40 +138,40 @@ pub returns-then-asked-eq0-clause-stopped : goal.returns-then-asked-eq0-clause-s
 returns-then-asked-eq0-clause-stopped g c = cc
 
 pub returns-then-asked-eq0-clause-once : goal.returns-then-asked-eq0-clause-once
-returns-then-asked-eq0-clause-once g c = grind (arith, common_steps)
+returns-then-asked-eq0-clause-once g c = λ e. false≢true (ap is_err e)
 
 pub returns-then-asked-eq0-clause-sink_failure : goal.returns-then-asked-eq0-clause-sink_failure
 returns-then-asked-eq0-clause-sink_failure g c = c.pieces.invariant.4 ∙ unfailed _ _ refl
 
 pub returns-then-asked-eq0-clause-sure : goal.returns-then-asked-eq0-clause-sure
-returns-then-asked-eq0-clause-sure g c = grind (arith, common_steps)
+returns-then-asked-eq0-clause-sure g c = λ task s B h enough. refl
 
 pub returns-in-Err-clause-stopped : goal.returns-in-Err-clause-stopped
 returns-in-Err-clause-stopped g c = cc
 
 pub returns-in-Err-clause-once : goal.returns-in-Err-clause-once
-returns-in-Err-clause-once g c = grind (arith, common_steps)
+returns-in-Err-clause-once g c = λ e. true≢false (ap stops_for_intake e)
 
 pub returns-in-Err-clause-sure : goal.returns-in-Err-clause-sure
-returns-in-Err-clause-sure g c = grind (arith, common_steps)
+returns-in-Err-clause-sure g c = λ task s B h enough. refl
 
 pub returns-then-count-eq0-clause-stopped : goal.returns-then-count-eq0-clause-stopped
 returns-then-count-eq0-clause-stopped g c = cc
 
 pub returns-then-count-eq0-clause-once : goal.returns-then-count-eq0-clause-once
-returns-then-count-eq0-clause-once g c = grind (arith, common_steps)
+returns-then-count-eq0-clause-once g c = λ e. false≢true (ap is_err e)
 
 pub returns-then-count-eq0-clause-sink_failure : goal.returns-then-count-eq0-clause-sink_failure
 returns-then-count-eq0-clause-sink_failure g c = c.pieces.invariant.4 ∙ unfailed _ _ refl
 
 pub returns-then-count-eq0-clause-sure : goal.returns-then-count-eq0-clause-sure
-returns-then-count-eq0-clause-sure g c = grind (arith, common_steps)
+returns-then-count-eq0-clause-sure g c = λ task s B h enough. refl
 
 pub returns-then-is_err-clause-stopped : goal.returns-then-is_err-clause-stopped
 returns-then-is_err-clause-stopped g c = cc
 
 pub returns-then-is_err-clause-once : goal.returns-then-is_err-clause-once
-returns-then-is_err-clause-once g c = grind (arith, common_steps)
+returns-then-is_err-clause-once g c = λ e. true≢false (ap stops_for_sink e)
 
 pub returns-then-is_err-clause-intake_failure : goal.returns-then-is_err-clause-intake_failure
 returns-then-is_err-clause-intake_failure g c = c.in-Ok.ensures.failure ∙ c.pieces.invariant.3 ∙ unfailed _ false refl
@@ -211,16 +213,16 @@ returns-then-is_err-clause-beside g c = λ task s B h detached.
     absurd (none_apart (c.pieces.invariant.0 task s B h).reads_on.so_far detached (sym c.is_in_payload-in_payload.ensures ∙ c.if-in_payload.true))
 
 pub slice_bounds-take-end : goal.slice_bounds-take-end
-slice_bounds-take-end g c = grind (arith, common_steps)
+slice_bounds-take-end g c = omega (arith, c.request-asked.ensures.most)
 
 pub slice_bounds-take-end-in-pieces : goal.slice_bounds-take-end-in-pieces
-slice_bounds-take-end-in-pieces g c = grind (arith, common_steps)
+slice_bounds-take-end-in-pieces g c = omega (arith, c.request-asked.ensures.most, length-take c.request-asked.result c.pieces.chunk)
 
 pub slice_bounds-piece-end : goal.slice_bounds-piece-end
-slice_bounds-piece-end g c = grind (arith, common_steps)
+slice_bounds-piece-end g c = omega (arith, c.in-Ok.ensures.within, length-append c.take.new.into (drop c.request-asked.result c.pieces.chunk))
 
 pub slice_bounds-piece-end-in-pieces : goal.slice_bounds-piece-end-in-pieces
-slice_bounds-piece-end-in-pieces g c = grind (arith, common_steps)
+slice_bounds-piece-end-in-pieces g c = omega (arith, c.in-Ok.ensures.within, length-take c.in-Ok.count (c.take.new.into ++ drop c.request-asked.result c.pieces.chunk), length-append c.take.new.into (drop c.request-asked.result c.pieces.chunk))
 
 pub lemma_reading_so_far-requires : goal.lemma_reading_so_far-requires
 lemma_reading_so_far-requires g c = grind (arith, common_steps)

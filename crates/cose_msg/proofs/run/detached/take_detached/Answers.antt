@@ -1,4 +1,3 @@
-use Rattle.std.proofs.lemmas.Grind.{common_steps}
 use Rattle.std.proofs.Common.{◌≡◌, ◌<◌, ◌||◌, ◌++◌, Bool, false, inl, inr, refl, sym, ap, ◌∙◌, arith}
 use Rattle.std.proofs.lemmas.Result.{err_from_is_err_and}
 use Rattle.cose_msg.specs.Message.{message}
@@ -8,6 +7,8 @@ use Rattle.cose_msg.specs.Task.{given_to, rules_of}
 use Rattle.cose_msg.proofs.lemmas.Detached.BothAnswered.{is_of_detached}
 use Rattle.cose_msg.proofs.lemmas.Detached.BothTaken.{all_there, detached_given, ended_in_payload, none_awaited, settled_awaiting, stopped_before_nil, stopped_in_payload, taken_alone, took_or_stopped}
 use Rattle.cose_msg.proofs.lemmas.Deciding.KeptAnswers.{unfailed}
+use Rattle.std.proofs.lemmas.Bool.{false≢true}
+use Rattle.std.specs.Prelude.{is_err}
 use Rattle.cose_msg.proofs.run.detached.take_detached.Goals as goal
 
 -- A call that stopped for nothing, and one after it.
@@ -115,34 +116,34 @@ returns-clause-sure g c = λ task s B h enough.
     (c.take_message-result.ensures.beside _ _ _ b.reads_on.0 (detached_given (B ++ b.came) task detached)).0
 
 pub returns-in_err-take_message-clause-stopped : goal.returns-in_err-take_message-clause-stopped
-returns-in_err-take_message-clause-stopped g c = grind (arith, common_steps)
+returns-in_err-take_message-clause-stopped g c = let p = err_from_is_err_and c.from_residual.result c.from_residual.ensures.1 in rw p.1 c.in_err-take_message.ensures.stopped
 
 pub returns-in_err-take_message-clause-once : goal.returns-in_err-take_message-clause-once
-returns-in_err-take_message-clause-once g c = grind (arith, common_steps)
+returns-in_err-take_message-clause-once g c = let p = err_from_is_err_and c.from_residual.result c.from_residual.ensures.1 in rw (p.1, p.2) c.in_err-take_message.ensures.once
 
 pub returns-then-payload_wanted-eq0-clause-once : goal.returns-then-payload_wanted-eq0-clause-once
-returns-then-payload_wanted-eq0-clause-once g c = grind (arith, common_steps)
+returns-then-payload_wanted-eq0-clause-once g c = λ e. false≢true (ap is_err e)
 
 pub returns-then-payload_wanted-eq0-clause-sure : goal.returns-then-payload_wanted-eq0-clause-sure
-returns-then-payload_wanted-eq0-clause-sure g c = grind (arith, common_steps)
+returns-then-payload_wanted-eq0-clause-sure g c = λ task s B h enough. refl
 
 pub returns-in_err-take_payload-clause-stopped : goal.returns-in_err-take_payload-clause-stopped
-returns-in_err-take_payload-clause-stopped g c = grind (arith, common_steps)
+returns-in_err-take_payload-clause-stopped g c = let p = err_from_is_err_and c.from_residual-in_err-take_payload.result c.from_residual-in_err-take_payload.ensures.1 in rw p.1 c.in_err-take_payload.ensures.stopped
 
 pub returns-in_err-take_payload-clause-once : goal.returns-in_err-take_payload-clause-once
-returns-in_err-take_payload-clause-once g c = grind (arith, common_steps)
+returns-in_err-take_payload-clause-once g c = let p = err_from_is_err_and c.from_residual-in_err-take_payload.result c.from_residual-in_err-take_payload.ensures.1 in rw (p.1, p.2) c.in_err-take_payload.ensures.once
 
 pub returns-then-payload_wanted-gt0-clause-once : goal.returns-then-payload_wanted-gt0-clause-once
-returns-then-payload_wanted-gt0-clause-once g c = grind (arith, common_steps)
+returns-then-payload_wanted-gt0-clause-once g c = λ e. false≢true (ap is_err e)
 
 pub returns-then-payload_wanted-gt0-clause-sure : goal.returns-then-payload_wanted-gt0-clause-sure
-returns-then-payload_wanted-gt0-clause-sure g c = grind (arith, common_steps)
+returns-then-payload_wanted-gt0-clause-sure g c = λ task s B h enough. refl
 
 pub returns-clause-stopped : goal.returns-clause-stopped
-returns-clause-stopped g c = grind (arith, common_steps)
+returns-clause-stopped g c = c.take_message-result.ensures.stopped
 
 pub returns-clause-once : goal.returns-clause-once
-returns-clause-once g c = grind (arith, common_steps)
+returns-clause-once g c = c.take_message-result.ensures.once
 
 pub returns-in_err-take_message-clause-intake_failure : goal.returns-in_err-take_message-clause-intake_failure
 returns-in_err-take_message-clause-intake_failure g c = let p = err_from_is_err_and c.from_residual.result c.from_residual.ensures.1 in rw (p.1, p.2) (inl (c.in_err-take_message.ensures.intake_failure, refl))

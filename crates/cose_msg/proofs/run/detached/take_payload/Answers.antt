@@ -1,4 +1,4 @@
-use Rattle.std.proofs.Common.{◌≡◌, ℕ, ◌+◌, ◌<◌, ◌≤◌, ◌||◌, true, false, List, ◌++◌, length, take, drop, refl, sym, ◌∙◌, arith, length-append}
+use Rattle.std.proofs.Common.{◌≡◌, ℕ, ◌+◌, ◌<◌, ◌≤◌, List, ◌++◌, length, take, drop, refl, sym, ◌∙◌, arith, length-append, ap}
 use Rattle.std.proofs.Math.Bool.{or-true}
 use Rattle.std.proofs.lemmas.Grind.{common_steps}
 use Rattle.std.proofs.lemmas.List.{length-drop, length-take}
@@ -13,6 +13,9 @@ use Rattle.cose_msg.proofs.lemmas.Run.Purposes.{then_same_task}
 use Rattle.cose_msg.proofs.lemmas.Run.Runs.{AppendsFront-then, first_of, is_done, marks_fault, marks_nothing, not_at_end, promise_kept, put_done, put_failed, taken_before_failure}
 use Rattle.std.proofs.KnownBytes.{Consumes-trans}
 use Rattle.cose_msg.proofs.lemmas.Feeding.Statuses.{open_goes_on}
+use Rattle.std.proofs.lemmas.Bool.{false≢true, true≢false}
+use Rattle.std.specs.Prelude.{is_err}
+use Rattle.cose_msg.specs.Run.{stops_for_intake, stops_for_sink}
 use Rattle.cose_msg.proofs.run.detached.take_payload.Goals as goal
 
 pub pieces-init : goal.pieces-init
@@ -121,37 +124,37 @@ pieces-preserved g c =
     )
 
 pub returns-then-asked-eq0-clause-stopped : goal.returns-then-asked-eq0-clause-stopped
-returns-then-asked-eq0-clause-stopped g c = cc
+returns-then-asked-eq0-clause-stopped g c = c.pieces.invariant.1
 
 pub returns-then-asked-eq0-clause-once : goal.returns-then-asked-eq0-clause-once
-returns-then-asked-eq0-clause-once g c = grind (arith, common_steps)
+returns-then-asked-eq0-clause-once g c = λ e. false≢true (ap is_err e)
 
 pub returns-then-asked-eq0-clause-sure : goal.returns-then-asked-eq0-clause-sure
-returns-then-asked-eq0-clause-sure g c = grind (arith, common_steps)
+returns-then-asked-eq0-clause-sure g c = λ task s B h enough. refl
 
 pub returns-in-Err-clause-stopped : goal.returns-in-Err-clause-stopped
 returns-in-Err-clause-stopped g c = cc
 
 pub returns-in-Err-clause-once : goal.returns-in-Err-clause-once
-returns-in-Err-clause-once g c = grind (arith, common_steps)
+returns-in-Err-clause-once g c = λ e. true≢false (ap stops_for_intake e)
 
 pub returns-in-Err-clause-sure : goal.returns-in-Err-clause-sure
-returns-in-Err-clause-sure g c = grind (arith, common_steps)
+returns-in-Err-clause-sure g c = λ task s B h enough. refl
 
 pub returns-then-count-eq0-clause-stopped : goal.returns-then-count-eq0-clause-stopped
-returns-then-count-eq0-clause-stopped g c = cc
+returns-then-count-eq0-clause-stopped g c = c.pieces.invariant.1
 
 pub returns-then-count-eq0-clause-once : goal.returns-then-count-eq0-clause-once
-returns-then-count-eq0-clause-once g c = grind (arith, common_steps)
+returns-then-count-eq0-clause-once g c = λ e. false≢true (ap is_err e)
 
 pub returns-then-count-eq0-clause-sure : goal.returns-then-count-eq0-clause-sure
-returns-then-count-eq0-clause-sure g c = grind (arith, common_steps)
+returns-then-count-eq0-clause-sure g c = λ task s B h enough. refl
 
 pub returns-then-is_err-clause-stopped : goal.returns-then-is_err-clause-stopped
 returns-then-is_err-clause-stopped g c = cc
 
 pub returns-then-is_err-clause-once : goal.returns-then-is_err-clause-once
-returns-then-is_err-clause-once g c = grind (arith, common_steps)
+returns-then-is_err-clause-once g c = λ e. true≢false (ap stops_for_sink e)
 
 pub returns-then-asked-eq0-clause-sink_failure : goal.returns-then-asked-eq0-clause-sink_failure
 returns-then-asked-eq0-clause-sink_failure g c = c.pieces.invariant.6 ∙ unfailed _ _ refl
@@ -166,19 +169,25 @@ pub returns-then-asked-eq0-clause-payload_failure : goal.returns-then-asked-eq0-
 returns-then-asked-eq0-clause-payload_failure g c = c.pieces.invariant.5 ∙ unfailed _ _ refl
 
 pub slice_bounds-take-end : goal.slice_bounds-take-end
-slice_bounds-take-end g c = grind (arith, common_steps)
+slice_bounds-take-end g c = omega (arith, c.min-asked.ensures)
 
 pub slice_bounds-take-end-in-pieces : goal.slice_bounds-take-end-in-pieces
-slice_bounds-take-end-in-pieces g c = grind (arith, common_steps)
+slice_bounds-take-end-in-pieces g c = omega (arith, c.min-asked.ensures, length-take c.min-asked.result c.pieces.chunk)
 
 pub slice_bounds-piece-end : goal.slice_bounds-piece-end
-slice_bounds-piece-end g c = grind (arith, common_steps)
+slice_bounds-piece-end g c = omega (arith, c.in-Ok.ensures.within, length-append c.take.new.into (drop c.min-asked.result c.pieces.chunk))
 
 pub slice_bounds-piece-end-in-pieces : goal.slice_bounds-piece-end-in-pieces
-slice_bounds-piece-end-in-pieces g c = grind (arith, common_steps)
+slice_bounds-piece-end-in-pieces g c = omega (arith, c.in-Ok.ensures.within, length-take c.in-Ok.count (c.take.new.into ++ drop c.min-asked.result c.pieces.chunk), length-append c.take.new.into (drop c.min-asked.result c.pieces.chunk))
 
 pub pieces-smaller : goal.pieces-smaller
-pieces-smaller g c = grind (arith, common_steps)
+pieces-smaller g c =
+    let piece : List ℕ = take c.in-Ok.count (c.take.new.into ++ drop c.min-asked.result c.pieces.chunk) in
+    let size : length piece ≡ c.in-Ok.count = omega (arith, c.in-Ok.ensures.within, length-take c.in-Ok.count (c.take.new.into ++ drop c.min-asked.result c.pieces.chunk), length-append c.take.new.into (drop c.min-asked.result c.pieces.chunk)) in
+    let some : 0 < length piece = omega (arith, size, c.if-count-eq0.false) in
+    let fits : length piece ≤ payload_wanted_in c.pieces.verifier = omega (arith, size, c.in-Ok.ensures.within, c.take.auto.into, c.min-asked.ensures, c.payload_wanted.ensures.value, length-take c.min-asked.result c.pieces.chunk) in
+    let used : c.feed_payload.result ≡ length piece = whole_piece c.feed_payload.ensures.uses fits in
+    omega (arith, some, used, c.feed_payload.ensures.left)
 
 pub lemma_reading_so_far-requires : goal.lemma_reading_so_far-requires
 lemma_reading_so_far-requires g c = grind (arith, common_steps)
