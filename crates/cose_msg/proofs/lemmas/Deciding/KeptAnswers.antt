@@ -1,5 +1,5 @@
 -- What is known of a call whose answer was kept before.
-use Rattle.std.proofs.Common.{◌≡◌, ◌↔◌, Bool, true, false, Option, Some, None, Result, Ok, Err, refl, sym, ap, subst}
+use Rattle.std.proofs.Common.{◌≡◌, ◌↔◌, Bool, true, false, Option, Some, None, Result, Ok, Err, refl, sym, ap, subst, ◌∙◌}
 use Rattle.std.specs.Prelude.{◌||◌, if◌then◌else◌}
 use Rattle.cose_msg.specs.declared.status.Status.{Status}
 use Rattle.cose_msg.specs.declared.status.Status.TheVariants.{Stopped}
@@ -34,6 +34,10 @@ kept_sink false None result e = absurd cc
 pub unfailed : (failed stops : Bool) → stops ≡ false → failed ≡ (failed || stops)
 unfailed true stops e = refl
 unfailed false stops e = sym e
+
+-- A call that failed as little as before, and one after it that may fail.
+pub then_failed : (before between after failed : Bool) → between ≡ before → after ≡ (between || failed) → after ≡ (before || failed)
+then_failed before between after failed first second = second ∙ ap (λ (b : Bool). b || failed) first
 
 -- The verdict on a complete message, which is known, is kept.
 pub known_is_kept : (stopped : Bool) (said : Status) (known : Option Verdict) (verdict : Verdict) → is_complete (if stopped then Stopped else said) ≡ true → known ≡ Some verdict →

@@ -1,4 +1,4 @@
-use Rattle.std.proofs.Common.{◌≡◌, ℕ, ◌||◌, Bool, true, false, List, [], Option, None, Some, Err, option_map, refl, sym, ap, ◌∙◌, arith}
+use Rattle.std.proofs.Common.{◌≡◌, ℕ, Bool, true, false, List, [], Option, None, Some, Err, option_map, refl, sym, ◌∙◌, arith}
 use Rattle.std.proofs.Math.Bool.{or-false, or-true}
 use Rattle.std.specs.Prelude.{is_some, if◌then◌else◌}
 use Rattle.std.proofs.lemmas.Bool.{false≢true, true≢false}
@@ -12,6 +12,7 @@ use Rattle.cose_msg.specs.declared.make.MakeFault.TheVariants as faults
 use Rattle.cose_msg.specs.Make.{argument_fault}
 use Rattle.cose_msg.specs.Message.{secret_of}
 use Rattle.cose_msg.specs.Writes.{Seen, Streams}
+use Rattle.cose_msg.proofs.lemmas.Deciding.KeptAnswers.{then_failed}
 use Rattle.cose_msg.proofs.lemmas.Made.Makes.{all_made, answered, auth_is, front_failed, front_sure, no_fault, parts_of, payload_failed, payload_sure, same_length, secret_is, tail_failed, tail_sure, too_long, wrong_key}
 use Rattle.cose_msg.proofs.make.make_mac0.Goals as goal
 
@@ -27,9 +28,6 @@ of_payload {n} {come} {come_after} {ended} {old} {new} {before} {after} {taken} 
 unfaulted : (fault : Option MakeFault) → fault ≡ None → is_some fault ≡ true → ⊥
 unfaulted None e some = false≢true some
 unfaulted (Some fault) e some = none-some fault (sym e)
-
-then_failed : (old now new stops : Bool) → now ≡ old → new ≡ (now || stops) → new ≡ (old || stops)
-then_failed old now new stops first second = second ∙ ap (λ (failed : Bool). failed || stops) first
 
 pub returns-in_err-front-clause-makes : goal.returns-in_err-front-clause-makes
 returns-in_err-front-clause-makes g c =

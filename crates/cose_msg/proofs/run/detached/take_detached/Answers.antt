@@ -6,17 +6,14 @@ use Rattle.cose_msg.specs.Status.{payload_wanted_in}
 use Rattle.cose_msg.specs.Task.{given_to, rules_of}
 use Rattle.cose_msg.proofs.lemmas.Detached.BothAnswered.{is_of_detached}
 use Rattle.cose_msg.proofs.lemmas.Detached.BothTaken.{all_there, detached_given, ended_in_payload, none_awaited, settled_awaiting, stopped_before_nil, stopped_in_payload, taken_alone, took_or_stopped}
-use Rattle.cose_msg.proofs.lemmas.Deciding.KeptAnswers.{unfailed}
+use Rattle.cose_msg.proofs.lemmas.Deciding.KeptAnswers.{then_failed, unfailed}
 use Rattle.std.proofs.lemmas.Bool.{false≢true}
 use Rattle.std.specs.Prelude.{is_err}
 use Rattle.cose_msg.proofs.run.detached.take_detached.Goals as goal
 
--- A call that stopped for nothing, and one after it.
+-- A call that stopped for nothing.
 same : (old new : Bool) → new ≡ (old || false) → new ≡ old
 same old new e = e ∙ sym (unfailed old false refl)
-
-then_failed : (old new later stops : Bool) → new ≡ (old || false) → later ≡ (new || stops) → later ≡ (old || stops)
-then_failed old new later stops first second = second ∙ ap (λ (failed : Bool). failed || stops) (same old new first)
 
 pub returns-in_err-take_message-clause-takes : goal.returns-in_err-take_message-clause-takes
 returns-in_err-take_message-clause-takes g c = λ task s B h.
@@ -164,7 +161,7 @@ pub returns-in_err-take_payload-clause-intake_failure : goal.returns-in_err-take
 returns-in_err-take_payload-clause-intake_failure g c = let p = err_from_is_err_and c.from_residual-in_err-take_payload.result c.from_residual-in_err-take_payload.ensures.1 in rw (p.1, p.2) (inr (same _ _ c.in_ok-take_message.ensures.intake_failure, c.in_err-take_payload.ensures.payload_failure))
 
 pub returns-in_err-take_payload-clause-sink_failure : goal.returns-in_err-take_payload-clause-sink_failure
-returns-in_err-take_payload-clause-sink_failure g c = let p = err_from_is_err_and c.from_residual-in_err-take_payload.result c.from_residual-in_err-take_payload.ensures.1 in rw (p.1, p.2) (then_failed _ _ _ _ c.in_ok-take_message.ensures.sink_failure c.in_err-take_payload.ensures.sink_failure)
+returns-in_err-take_payload-clause-sink_failure g c = let p = err_from_is_err_and c.from_residual-in_err-take_payload.result c.from_residual-in_err-take_payload.ensures.1 in rw (p.1, p.2) (then_failed _ _ _ _ (same _ _ c.in_ok-take_message.ensures.sink_failure) c.in_err-take_payload.ensures.sink_failure)
 
 pub returns-then-payload_wanted-gt0-clause-stopped : goal.returns-then-payload_wanted-gt0-clause-stopped
 returns-then-payload_wanted-gt0-clause-stopped g c = c.in_ok-take_payload.ensures.stopped
@@ -173,10 +170,10 @@ pub returns-then-payload_wanted-gt0-clause-intake_failure : goal.returns-then-pa
 returns-then-payload_wanted-gt0-clause-intake_failure g c = inr (same _ _ c.in_ok-take_message.ensures.intake_failure, c.in_ok-take_payload.ensures.payload_failure)
 
 pub returns-then-payload_wanted-gt0-clause-sink_failure : goal.returns-then-payload_wanted-gt0-clause-sink_failure
-returns-then-payload_wanted-gt0-clause-sink_failure g c = then_failed _ _ _ _ c.in_ok-take_message.ensures.sink_failure c.in_ok-take_payload.ensures.sink_failure
+returns-then-payload_wanted-gt0-clause-sink_failure g c = then_failed _ _ _ _ (same _ _ c.in_ok-take_message.ensures.sink_failure) c.in_ok-take_payload.ensures.sink_failure
 
 pub returns-clause-intake_failure : goal.returns-clause-intake_failure
-returns-clause-intake_failure g c = inl (then_failed _ _ _ _ c.in_ok-take_message.ensures.intake_failure c.take_message-result.ensures.intake_failure, same _ _ c.in_ok-take_payload.ensures.payload_failure)
+returns-clause-intake_failure g c = inl (then_failed _ _ _ _ (same _ _ c.in_ok-take_message.ensures.intake_failure) c.take_message-result.ensures.intake_failure, same _ _ c.in_ok-take_payload.ensures.payload_failure)
 
 pub returns-clause-sink_failure : goal.returns-clause-sink_failure
-returns-clause-sink_failure g c = then_failed _ _ _ _ (then_failed _ _ _ false c.in_ok-take_message.ensures.sink_failure c.in_ok-take_payload.ensures.sink_failure) c.take_message-result.ensures.sink_failure
+returns-clause-sink_failure g c = then_failed _ _ _ _ (same _ _ (then_failed _ _ _ false (same _ _ c.in_ok-take_message.ensures.sink_failure) c.in_ok-take_payload.ensures.sink_failure)) c.take_message-result.ensures.sink_failure

@@ -4,6 +4,7 @@ use Rattle.std.proofs.lemmas.Result.{IfOk-weaker}
 use Rattle.cose_files.specs.NewFile.{Made}
 use Rattle.cosecmd.proofs.answer.payload_to.new_file.Goals as goal
 
+-- What holds of a value holds of that of a result which differs in its fault alone.
 mapped : {T E F : Type 0} (r : Result T E) (s : Result T F) (P : T → Type 0) (Q : E → Type 0) → MatchResult r (λ x. s ≡ Ok x) Q → is_ok s ≡ is_ok r → IfOk r P → IfOk s P
 mapped (Ok x) s P Q is same good = rw is good
 mapped (Err e) (Ok x) P Q is same good = absurd cc
