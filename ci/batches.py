@@ -4,9 +4,15 @@ A check goes on after a function that isn't proved, and a caller stands on contr
 tried at once: each is refused where a goal of its own function is. In one batch are at most one edit of a function, and only
 edits whose texts still stand once in their files after those before them. An edit of a constant that stands in no signature and
 in no type is one of the functions whose bodies name it.
+
+A function that an edit changes is tried as a copy beside it, under the same contract and with the same answers: what calls the
+function stands as it is, and hasn't to be proved again. It is changed where it stands if a constant is, or if its name is given: a
+method of a trait, and functions that call each other. Batches of copies are tried in one check, where each copy is a function of
+its own.
 """
 import dataclasses
 import itertools
+import pathlib
 import re
 from typing import NamedTuple
 
@@ -17,6 +23,9 @@ CYCLE = re.compile(r" *#\[cycle\((\w+)\)\]")
 TRAIT = re.compile(r"(?:pub(?:\([^)]*\))? )?trait (\w+)")
 TYPE = re.compile(r"^(?:pub(?:\([^)]*\))? )?(?:struct|enum) (\w+)", re.M)
 CONSTANT = re.compile(r"^ *(?:pub(?:\([^)]*\))? )?(?:const|static) (\w+): [^;]*;", re.M)
+# what follows the names of functions in their copies of the batch of this number
+COPIED = "_edited_{}"
+OF_A_COPY = re.compile(r"_edited_\d+\b")
 # what names a constant and doesn't use it
 IMPORTS = re.compile(r"^ *(?:pub(?:\([^)]*\))? )?(?:ghost )?use [^;]*;|//.*", re.M)
 
@@ -24,16 +33,18 @@ IMPORTS = re.compile(r"^ *(?:pub(?:\([^)]*\))? )?(?:ghost )?use [^;]*;|//.*", re
 @dataclasses.dataclass(frozen=True)
 class Function:
     """A function's module, the type or the trait whose block it is in, if any, and its name; then the trait that the type meets
-    there, and the cycle of calls that it is in, if any. A method's module is that of its type, wherever its block stands."""
+    there, and the cycle of calls that it is in, if any, and what its name has after it where a copy of it is meant. A method's module
+    is that of its type, wherever its block stands."""
     module: str
     block: str
     name: str
     trait: str = dataclasses.field(default="", compare=False)
     cycle: str = dataclasses.field(default="", compare=False)
+    copied: str = dataclasses.field(default="", compare=False)
 
     def path(self):
         """The path that a check has for it, without the crate's name."""
-        return "::".join(it for it in (self.module, self.block + self.trait, self.name) if it)
+        return "::".join(it for it in (self.module, self.block + self.trait, self.name + self.copied) if it)
 
     def answers(self):
         """The file of its answers, without the crate's folder: functions that call each other have one."""
@@ -46,11 +57,11 @@ class Function:
         module = self.module.split("::") if self.module else []
         if parts[:len(module)] != module:
             return False
-        rest = parts[len(module):]
+        rest, name = parts[len(module):], self.name + self.copied
         if not self.block:
-            return rest[:1] == [self.name]
+            return rest[:1] == [name]
         met = rest[:1] == [self.block] or self.trait and "".join(rest[:1]).startswith(self.block + self.trait)
-        return bool(met) and self.name in rest[1:]
+        return bool(met) and name in rest[1:]
 
 
 class Change(NamedTuple):
@@ -109,10 +120,35 @@ def function_at(file, text, place, types=()):
     return Function(module, block, found[2], trait, cycle_of(lines, number))
 
 
+def above(lines, number):
+    """The attributes and comments above the function at this line, the nearest first."""
+    return list(itertools.takewhile(lambda line: line.lstrip().startswith(("#[", "//")), reversed(lines[:number])))
+
+
 def cycle_of(lines, number):
     """The cycle of calls that the function at this line is said to be in, in an attribute above it, or nothing."""
-    above = itertools.takewhile(lambda line: line.lstrip().startswith(("#[", "//")), reversed(lines[:number]))
-    return next((found[1] for found in map(CYCLE.match, above) if found), "")
+    return next((found[1] for found in map(CYCLE.match, above(lines, number)) if found), "")
+
+
+class Copy(NamedTuple):
+    """The number of the last line of a function, which a copy of it follows, and the copy's lines."""
+    after: int
+    lines: list
+
+
+def copy_of(text, at, ending):
+    """A copy of the function around this line, whose name has this ending, or None where a trait declares the function."""
+    lines = text.split("\n")
+    head = next(number for number in range(at, -1, -1) if FUNCTION.match(lines[number]))
+    found = FUNCTION.match(lines[head])
+    block = next((line for line in reversed(lines[:head]) if IMPL.match(line) or TRAIT.match(line)), "") if found[1] else ""
+    if TRAIT.match(block):
+        return None
+    last = lines.index(found[1] + "}", at)
+    first = head - len(above(lines, head))
+    own = lines[first : last + 1]
+    own[head - first] = lines[head][: found.end(2)] + ending + lines[head][found.end(2) :]
+    return Copy(last, own)
 
 
 def block_at(lines, number):
@@ -172,18 +208,20 @@ def users_of(name, text_of, files, types=()):
 
 
 class Batch:
-    """Edits that are tried in one check: the texts of the files that they change, and each edit's functions."""
+    """Edits that are tried in one check: the texts of the files in which they change functions, the copies of functions by file, and
+    each edit's functions."""
 
-    def __init__(self, read, files=(), types=None):
+    def __init__(self, read, files=(), types=None, number=0):
         self.read, self.files, self.types = read, files, types_in(read, files) if types is None else types
-        self.texts, self.functions, self.constants = {}, {}, set()
+        self.texts, self.copies, self.functions, self.constants = {}, {}, {}, set()
+        self.ending = COPIED.format(number)
 
     def text(self, file):
         return self.texts[file] if file in self.texts else self.read(file)
 
     def take(self, edit, changes):
         """Adds an edit, and says whether it could be: each text is there once, in a function that no other edit changes."""
-        texts, functions, constants = {}, set(), set()
+        texts, functions, constants, places = {}, set(), set(), {}
         for file, old, new in changes:
             text = texts.get(file) or self.text(file)
             if not file.startswith("src/") or text.count(old) != 1:
@@ -200,13 +238,58 @@ class Batch:
             if any(re.search(rf"\b{it}\b", new) for it in self.constants):
                 return False
             functions |= changed
+            places.update({it: (file, text.count("\n", 0, place)) for it in changed})
             texts[file] = text.replace(old, new)
         if not functions:
             return False
-        self.texts.update(texts)
+        copies = [] if constants else self.copies_of(places, texts)
+        if self.functions and bool(copies) != bool(self.copies):
+            return False
+        if copies:
+            functions = {dataclasses.replace(it, copied=self.ending) for it in functions}
+            for file, copy in copies:
+                self.copies.setdefault(file, []).append(copy)
+        else:
+            self.texts.update(texts)
         self.functions[edit] = functions
         self.constants |= constants
         return True
+
+    def copies_of(self, places, texts):
+        """Copies of all functions at these lines of the files, or none where one of them can't be copied."""
+        copies = [
+            (file, None if it.trait or it.cycle else copy_of(texts[file], number, self.ending))
+            for it, (file, number) in places.items()
+        ]
+        return copies if all(copy for _, copy in copies) else []
+
+    def join(self, other):
+        """Has the check of these copies be that of the copies of another batch, too."""
+        self.functions.update(other.functions)
+        for file, copies in other.copies.items():
+            self.copies.setdefault(file, []).extend(copies)
+
+    def sources(self):
+        """The text of each file that the edits change, with the copies after their functions."""
+        texts = {file: self.text(file) for file in [*self.texts, *self.copies]}
+        for file, copies in self.copies.items():
+            lines = texts[file].split("\n")
+            for after, copy in sorted(copies, reverse=True):
+                lines[after + 1 : after + 1] = ["", *copy]
+            texts[file] = "\n".join(lines)
+        return texts
+
+    def write(self, folder):
+        """Writes the changed files into this copy of the crate, and the answers of each function's copy, which say its name."""
+        for file, text in self.sources().items():
+            pathlib.Path(folder, file).write_text(text)
+        for copied in {it for functions in self.functions.values() for it in functions if it.copied}:
+            own = dataclasses.replace(copied, copied="")
+            name = re.compile(r"\b((?:proofs|contracts)\." + re.escape(own.path().replace("::", ".")) + r")(?![\w-])")
+            for file in pathlib.Path(folder, own.answers()).parent.glob("*.antt"):
+                to = pathlib.Path(folder, copied.answers()).with_name(file.name)
+                to.parent.mkdir(parents=True, exist_ok=True)
+                to.write_text(name.sub(rf"\1{copied.copied}", file.read_text()))
 
     def paths(self):
         """The paths of all functions that the edits change."""
@@ -217,9 +300,9 @@ class Batch:
         return sorted({it.answers() for functions in self.functions.values() for it in functions if it.path() in paths})
 
     def refused(self, goals):
-        """By edit, those of the goals that are of its functions."""
+        """By edit, those of the goals that are of its functions, of which none is called a copy there."""
         return {
-            edit: [(path, goal) for path, goal in goals if any(function.has(path) for function in functions)]
+            edit: [(OF_A_COPY.sub("", path), goal) for path, goal in goals if any(it.has(path) for it in functions)]
             for edit, functions in self.functions.items()
         }
 
@@ -230,9 +313,18 @@ def batches(edits, read, files=()):
     for edit, changes in edits:
         if any(batch.take(edit, changes) for batch in made):
             continue
-        batch = Batch(read, files, types)
+        batch = Batch(read, files, types, len(made))
         if batch.take(edit, changes):
             made.append(batch)
         else:
             alone.append(edit)
     return made, alone
+
+
+def checks(made):
+    """The checks in which batches are tried: those of copies in one, and each other one in its own."""
+    found = [it for it in made if not it.copies]
+    copied = [it for it in made if it.copies]
+    for it in copied[1:]:
+        copied[0].join(it)
+    return copied[:1] + found

@@ -1,10 +1,12 @@
 #!/usr/bin/env python3
 """Tests of ci/batches.py, with the runner of Python's library."""
+import pathlib
 import sys
+import tempfile
 import unittest
 
 sys.dont_write_bytecode = True
-from batches import Batch, Change, Function, batches, changes_of, function_at  # noqa: E402 (beside this file)
+from batches import Batch, Change, Function, batches, changes_of, checks, function_at  # noqa: E402 (beside this file)
 
 SOURCE = """//! A module.
 
@@ -23,6 +25,14 @@ impl<const H: usize> Take for Reader<'_, H> {
 
     fn other(&self) -> u8 {
         self.a + 2
+    }
+}
+
+impl Writer {
+    /// Puts.
+    #[inline]
+    pub fn put(&self) -> u8 {
+        self.a + 5
     }
 }
 
@@ -119,7 +129,11 @@ class Batches(unittest.TestCase):
         return [sorted(batch.functions) for batch in made], alone
 
     def test_different_functions_share_a_batch(self):
-        self.assertEqual(self.made(edit("a + 0", "a"), edit("self.a + 1", "1")), ([["0", "1"]], []))
+        self.assertEqual(self.made(edit("a + 0", "a"), edit("self.a + 5", "1")), ([["0", "1"]], []))
+        self.assertEqual(self.made(edit("self.a + 1", "a"), edit("self.a + 2", "1")), ([["0", "1"]], []))
+
+    def test_those_that_are_copied_and_those_that_are_not_never_do(self):
+        self.assertEqual(self.made(edit("a + 0", "a"), edit("self.a + 1", "1"), edit("        3", "4")), ([["0"], ["1", "2"]], []))
 
     def test_two_edits_of_one_function_never_do(self):
         self.assertEqual(self.made(edit("a + 0", "a"), edit("a + 0", "1"), edit("a + 0", "2")), ([["0"], ["1"], ["2"]], []))
@@ -143,7 +157,7 @@ class Batches(unittest.TestCase):
         named = [Change("src/c.rt", "four()", "ROOM")]
         files = [("room", room), ("width", width), ("one", one), ("three", three), ("named", named)]
         made, alone = batches(files, users.get, list(users))
-        self.assertEqual([sorted(it.functions) for it in made], [["room", "three"], ["named", "one"]])
+        self.assertEqual([sorted(it.functions) for it in made], [["room"], ["one", "three"], ["named"]])
         self.assertEqual(made[0].functions["room"], {Function("c", "", "one"), Function("c", "", "two")})
         self.assertEqual(alone, ["width"])
 
@@ -152,19 +166,79 @@ class Batches(unittest.TestCase):
         made, alone = self.made(*edits)
         self.assertEqual(sum(map(len, made)) + len(alone), len(edits))
 
-    def test_the_answers_of_the_functions_of_a_batch(self):
+    def batch(self, **changes):
+        """A batch that takes all of these edits."""
         batch = Batch(FILES.get)
-        batch.take("one", edit("a + 0", "a + 9"))
-        batch.take("two", edit("self.a + 1", "self.a + 9"))
+        for name, change in changes.items():
+            self.assertTrue(batch.take(name, change), name)
+        return batch
+
+    def test_the_answers_of_the_functions_of_a_batch(self):
+        batch = self.batch(one=edit("self.a + 1", "self.a + 9"), two=edit("self.a + 2", "self.a + 9"))
         self.assertEqual(batch.answers(["a::b::ReaderTake::take"]), ["proofs/a/b/ReaderTake/take/Answers.antt"])
         self.assertEqual(len(batch.answers(batch.paths())), 2)
 
+    def test_a_method_of_a_trait_is_changed_where_it_stands(self):
+        batch = self.batch(one=edit("self.a + 1", "self.a + 9"), two=edit("        3", "        4"))
+        self.assertEqual(batch.sources(), {"src/a/b.rt": SOURCE.replace("self.a + 1", "self.a + 9").replace("        3", "        4")})
+        self.assertEqual(batch.paths(), ["a::b::Give::give", "a::b::ReaderTake::take"])
+
+    def test_functions_that_call_each_other_are_changed_where_they_stand(self):
+        text = "#[cycle(items)]\nfn read() {\n    7\n}\n"
+        batch = Batch({"src/a.rt": text}.get)
+        self.assertTrue(batch.take("one", edit("7", "8", "src/a.rt")))
+        self.assertEqual(batch.sources(), {"src/a.rt": text.replace("7", "8")})
+
+    def test_another_function_is_copied(self):
+        batch = self.batch(one=edit("self.a + 5", "self.a + 9"), two=edit("a + 0", "a + 9"))
+        first, put = SOURCE[SOURCE.index("pub fn first"):SOURCE.index("\nimpl<const")], SOURCE[SOURCE.index("    /// Puts."):]
+        put = put[:put.index("}\n") + 2]
+        copied = SOURCE.replace(put, put + "\n" + put.replace("5", "9").replace("fn put", "fn put_edited_0"))
+        copied = copied.replace(first, first + "\n" + first.replace("0", "9").replace("fn first", "fn first_edited_0"))
+        self.assertEqual(batch.sources(), {"src/a/b.rt": copied})
+        self.assertEqual(batch.paths(), ["a::b::Writer::put_edited_0", "a::b::first_edited_0"])
+
+    def test_batches_of_copies_are_one_check_in_which_each_edit_has_its_function(self):
+        edits = [edit("a + 0", "a + 9"), edit("self.a + 1", "1"), edit("a + 0", "a + 8"), edit("self.a + 1", "2"), edit("a + 5", "a + 7")]
+        made, _ = batches([(str(number), changes) for number, changes in enumerate(edits)], FILES.get)
+        self.assertEqual([sorted(it.functions) for it in made], [["0", "4"], ["1"], ["2"], ["3"]])
+        copied, *others = checks(made)
+        self.assertEqual([sorted(it.functions) for it in others], [["1"], ["3"]])
+        self.assertEqual(copied.paths(), ["a::b::Writer::put_edited_0", "a::b::first_edited_0", "a::b::first_edited_2"])
+        lines = copied.sources()["src/a/b.rt"].split("\n")
+        self.assertEqual([lines[lines.index(f"pub fn first{of}(a: u8) -> u8") + 3] for of in ("", "_edited_0", "_edited_2")],
+                         ["    a + 0", "    a + 9", "    a + 8"])
+        goals = [("a::b::first_edited_2", "returns"), ("a::b::Writer::put", "returns")]
+        self.assertEqual(copied.refused(goals), {"0": [], "2": [("a::b::first", "returns")], "4": []})
+
+    def test_an_edit_of_two_lines_has_one_copy(self):
+        batch = self.batch(one=[*edit("-> u8\n    ensures", "-> u9\n    ensures"), *edit("a + 0", "a + 9")])
+        (_, lines), = batch.copies["src/a/b.rt"]
+        self.assertEqual(lines, ["pub fn first_edited_0(a: u8) -> u9", "    ensures { result ≡ a }", "{", "    a + 9", "}"])
+
+    def test_a_copy_has_the_answers_of_its_function(self):
+        answers = "use Rattle.c.proofs.a.b.Writer.put.Goals as goal\nuse Rattle.c.proofs.a.b.Writer.put_all.Goals as other\n"
+        with tempfile.TemporaryDirectory() as folder:
+            own = pathlib.Path(folder, "proofs/a/b/Writer/put")
+            for it in own, pathlib.Path(folder, "src/a"):
+                it.mkdir(parents=True)
+            for name in "Answers.antt", "Invariants.antt":
+                (own / name).write_text(answers)
+            self.batch(one=edit("self.a + 5", "self.a + 9")).write(folder)
+            for name in "Answers.antt", "Invariants.antt":
+                copied = own.with_name("put_edited_0") / name
+                self.assertEqual(copied.read_text(), answers.replace("put.", "put_edited_0."))
+                self.assertEqual((own / name).read_text(), answers)
+
     def test_a_body_that_is_not_wrong_is_found(self):
-        batch = Batch(FILES.get)
-        self.assertTrue(batch.take("wrong", edit("a + 0", "a + 9")))
-        self.assertTrue(batch.take("right", edit("self.a + 1", "1 + self.a")))
-        goals = [("a::b::first", "returns"), ("a::b::Reader::other", "returns")]
+        batch = self.batch(wrong=edit("self.a + 1", "self.a + 9"), right=edit("self.a + 2", "2 + self.a"))
+        goals = [("a::b::ReaderTake::take", "returns"), ("a::b::first", "returns")]
         self.assertEqual(batch.refused(goals), {"wrong": goals[:1], "right": []})
+
+    def test_a_goal_of_a_copy_is_one_of_its_function(self):
+        batch = self.batch(wrong=edit("a + 0", "a + 9"), right=edit("self.a + 5", "5 + self.a"))
+        goals = [("a::b::first_edited_0", "returns"), ("a::b::Writer::put", "returns"), ("a::b::Writer::put_edited_1", "returns")]
+        self.assertEqual(batch.refused(goals), {"wrong": [("a::b::first", "returns")], "right": []})
 
     def test_the_text_of_an_edit(self):
         text = "a comment\nfile: src/a.rt\nold:  a\nnew: b\nold: c\nnew:\n"
