@@ -6,9 +6,9 @@ edits whose texts still stand once in their files after those before them. An ed
 in no type is one of the functions whose bodies name it.
 
 A function that an edit changes is tried as a copy beside it, under the same contract and with the same answers: what calls the
-function stands as it is, and hasn't to be proved again. It is changed where it stands if a constant is, or if its name is given: a
-method of a trait, and functions that call each other. Batches of copies are tried in one check, where each copy is a function of
-its own.
+function stands as it is, and hasn't to be proved again. A number that is changed stands in the copies in place of its name. A
+function is changed where it stands if another constant is, or if its name is given: a method of a trait, and functions that call
+each other. Batches of copies are tried in one check, where each copy is a function of its own.
 """
 import dataclasses
 import itertools
@@ -26,6 +26,8 @@ CONSTANT = re.compile(r"^ *(?:pub(?:\([^)]*\))? )?(?:const|static) (\w+): [^;]*;
 # what follows the names of functions in their copies of the batch of this number
 COPIED = "_edited_{}"
 OF_A_COPY = re.compile(r"_edited_\d+\b")
+# a constant that is a number, and what the number is
+NUMBER = re.compile(r"^ *(?:pub(?:\([^)]*\))? )?const (\w+): [ui]\w+ = ([\d_ ()<+*-]+);", re.M)
 # what names a constant and doesn't use it
 IMPORTS = re.compile(r"^ *(?:pub(?:\([^)]*\))? )?(?:ghost )?use [^;]*;|//.*", re.M)
 
@@ -186,9 +188,15 @@ def constant_at(text, place):
     return next((it[1] for it in CONSTANT.finditer(text) if it.start() <= place < it.end()), None)
 
 
+def number_of(text, name):
+    """The number that a constant is, as an expression, or None where it is none."""
+    found = next((it[2] for it in NUMBER.finditer(text) if it[1] == name), None)
+    return f"({found})" if found and re.search(r"[^\d_]", found) else found
+
+
 def users_of(name, text_of, files, types=()):
-    """The functions whose bodies name a constant, or None where something else does."""
-    users = set()
+    """The functions whose bodies name a constant, each with its file and a line there, or None where something else names it."""
+    users = {}
     for file in files:
         text = text_of(file)
         own = [it.span() for it in CONSTANT.finditer(text) if it[1] == name]
@@ -203,7 +211,7 @@ def users_of(name, text_of, files, types=()):
             function = None if named else function_at(file, text, place, types)
             if function is None or not is_in_body(text, place):
                 return None
-            users.add(function)
+            users[function] = file, text.count("\n", 0, place)
     return users or None
 
 
@@ -221,47 +229,51 @@ class Batch:
 
     def take(self, edit, changes):
         """Adds an edit, and says whether it could be: each text is there once, in a function that no other edit changes."""
-        texts, functions, constants, places = {}, set(), set(), {}
+        texts, places, constants = {}, {}, {}
         for file, old, new in changes:
             text = texts.get(file) or self.text(file)
             if not file.startswith("src/") or text.count(old) != 1:
                 return False
             place = text.index(old)
             function, constant = function_at(file, text, place, self.types), constant_at(text, place)
+            texts[file] = text.replace(old, new)
             if function is None and constant:
-                constants.add(constant)
+                constants[constant] = number_of(texts[file], constant)
                 changed = users_of(constant, self.text, self.files, self.types)
             else:
-                changed = function and {function}
-            if not changed or any(own & changed for own in self.functions.values()):
+                changed = function and {function: (file, text.count("\n", 0, place))}
+            if not changed or any(own & changed.keys() for own in self.functions.values()):
                 return False
             if any(re.search(rf"\b{it}\b", new) for it in self.constants):
                 return False
-            functions |= changed
-            places.update({it: (file, text.count("\n", 0, place)) for it in changed})
-            texts[file] = text.replace(old, new)
-        if not functions:
+            places.update(changed)
+        if not places:
             return False
-        copies = [] if constants else self.copies_of(places, texts)
+        copies = self.copies_of(places, texts, constants)
         if self.functions and bool(copies) != bool(self.copies):
             return False
-        if copies:
-            functions = {dataclasses.replace(it, copied=self.ending) for it in functions}
-            for file, copy in copies:
-                self.copies.setdefault(file, []).append(copy)
-        else:
+        for file, copy in copies:
+            self.copies.setdefault(file, []).append(copy)
+        if not copies:
             self.texts.update(texts)
-        self.functions[edit] = functions
-        self.constants |= constants
+            self.constants |= constants.keys()
+        self.functions[edit] = {dataclasses.replace(it, copied=self.ending if copies else "") for it in places}
         return True
 
-    def copies_of(self, places, texts):
-        """Copies of all functions at these lines of the files, or none where one of them can't be copied."""
-        copies = [
-            (file, None if it.trait or it.cycle else copy_of(texts[file], number, self.ending))
-            for it, (file, number) in places.items()
-        ]
-        return copies if all(copy for _, copy in copies) else []
+    def copies_of(self, places, texts, constants):
+        """Copies of all functions at these lines of the files, in which constants are these numbers, or none where one of them can't
+        be copied."""
+        if None in constants.values() or any(it.trait or it.cycle for it in places):
+            return []
+        copies = []
+        for file, line in places.values():
+            copy = copy_of(texts.get(file) or self.text(file), line, self.ending)
+            if copy is None:
+                return []
+            for name, number in constants.items():
+                copy.lines[:] = [re.sub(rf"(?:\w+::)*\b{name}\b", number, it) for it in copy.lines]
+            copies.append((file, copy))
+        return copies
 
     def join(self, other):
         """Has the check of these copies be that of the copies of another batch, too."""

@@ -145,21 +145,38 @@ class Batches(unittest.TestCase):
     def test_definitions_constants_and_unknown_texts_are_alone(self):
         self.assertEqual(self.made(edit("a", "b", "specs/A.antt"), edit("MOST", "LEAST"), edit("none", "")), ([], ["0", "1", "2"]))
 
+    users = {
+        "src/limits.rt": "pub const ROOM: usize = 8; // ROOM\npub const WIDTH: usize = 2;\nconst TEXT: &str = \"a\";\n\n"
+        "fn text() -> &str {\n    TEXT\n}\n",
+        "src/c.rt": "use crate::limits::{ROOM,\n    WIDTH};\n\nfn one() -> u8 {\n    ROOM\n}\n\nfn two() -> u8\n    ensures { true }\n"
+        "{\n    crate::limits::ROOM + 1\n}\n\nfn three() -> [u8; WIDTH] {\n    four()\n}\n",
+    }
+
     def test_a_constant_is_of_the_bodies_that_name_it(self):
-        users = {
-            "src/limits.rt": "pub const ROOM: usize = 8; // ROOM\npub const WIDTH: usize = 2;\n",
-            "src/c.rt": "use crate::limits::{ROOM,\n    WIDTH};\n\nfn one() -> u8 {\n    ROOM\n}\n\nfn two() -> u8\n    ensures { true }\n"
-            "{\n    ROOM + 1\n}\n\nfn three() -> [u8; WIDTH] {\n    four()\n}\n",
-        }
         room = [Change("src/limits.rt", "ROOM: usize = 8", "ROOM: usize = 9")]
         width = [Change("src/limits.rt", "= 2;", "= 3;")]
+        text = [Change("src/limits.rt", '"a"', '"b"')]
         one, three = [Change("src/c.rt", "    ROOM\n", "    0\n")], [Change("src/c.rt", "four()", "five()")]
         named = [Change("src/c.rt", "four()", "ROOM")]
-        files = [("room", room), ("width", width), ("one", one), ("three", three), ("named", named)]
-        made, alone = batches(files, users.get, list(users))
-        self.assertEqual([sorted(it.functions) for it in made], [["room"], ["one", "three"], ["named"]])
+        files = [("room", room), ("width", width), ("one", one), ("three", three), ("named", named), ("text", text)]
+        made, alone = batches(files, self.users.get, list(self.users))
+        self.assertEqual([sorted(it.functions) for it in made], [["room", "three"], ["named", "one"], ["text"]])
         self.assertEqual(made[0].functions["room"], {Function("c", "", "one"), Function("c", "", "two")})
         self.assertEqual(alone, ["width"])
+
+    def test_a_number_stands_in_the_copies_in_place_of_its_name(self):
+        for new, number in ("ROOM: usize = 9_000;", "9_000"), ("ROOM: usize = (1 << 3) - 1;", "((1 << 3) - 1)"):
+            batch = Batch(self.users.get, list(self.users))
+            self.assertTrue(batch.take("room", [Change("src/limits.rt", "ROOM: usize = 8;", new)]))
+            self.assertEqual(batch.sources(), {"src/c.rt": self.users["src/c.rt"].replace(
+                "\n\nfn two", f"\n\nfn one_edited_0() -> u8 {{\n    {number}\n}}\n\nfn two").replace(
+                "\n\nfn three", f"\n\nfn two_edited_0() -> u8\n    ensures {{ true }}\n{{\n    {number} + 1\n}}\n\nfn three")})
+
+    def test_another_constant_is_changed_where_it_stands(self):
+        batch = Batch(self.users.get, list(self.users))
+        self.assertTrue(batch.take("text", [Change("src/limits.rt", '"a"', '"b"')]))
+        self.assertEqual(batch.sources(), {"src/limits.rt": self.users["src/limits.rt"].replace('"a"', '"b"')})
+        self.assertEqual(batch.paths(), ["limits::text"])
 
     def test_all_are_tried(self):
         edits = [edit("a + 0", str(number)) for number in range(9)] + [edit("MOST", "LEAST")]
