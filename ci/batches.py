@@ -27,7 +27,7 @@ CONSTANT = re.compile(r"^ *(?:pub(?:\([^)]*\))? )?(?:const|static) (\w+): [^;]*;
 COPIED = "_edited_{}"
 OF_A_COPY = re.compile(r"_edited_\d+\b")
 # a constant that is a number, and what the number is
-NUMBER = re.compile(r"^ *(?:pub(?:\([^)]*\))? )?const (\w+): [ui]\w+ = ([\d_ ()<+*-]+);", re.M)
+NUMBER = re.compile(r"^ *(?:pub(?:\([^)]*\))? )?const (\w+): ([ui]\w+) = ([\d_ ()<+*-]+);", re.M)
 # what names a constant and doesn't use it
 IMPORTS = re.compile(r"^ *(?:pub(?:\([^)]*\))? )?(?:ghost )?use [^;]*;|//.*", re.M)
 
@@ -189,9 +189,9 @@ def constant_at(text, place):
 
 
 def number_of(text, name):
-    """The number that a constant is, as an expression, or None where it is none."""
-    found = next((it[2] for it in NUMBER.finditer(text) if it[1] == name), None)
-    return f"({found})" if found and re.search(r"[^\d_]", found) else found
+    """The number that a constant is, of its type where it is no sum, or None where it is none."""
+    found = next((it for it in NUMBER.finditer(text) if it[1] == name), None)
+    return found and (f"{found[3]}_{found[2]}" if re.fullmatch(r"[\d_]+", found[3]) else f"({found[3]})")
 
 
 def users_of(name, text_of, files, types=()):

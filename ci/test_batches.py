@@ -165,7 +165,7 @@ class Batches(unittest.TestCase):
         self.assertEqual(alone, ["width"])
 
     def test_a_number_stands_in_the_copies_in_place_of_its_name(self):
-        for new, number in ("ROOM: usize = 9_000;", "9_000"), ("ROOM: usize = (1 << 3) - 1;", "((1 << 3) - 1)"):
+        for new, number in ("ROOM: usize = 9_000;", "9_000_usize"), ("ROOM: usize = (1 << 3) - 1;", "((1 << 3) - 1)"):
             batch = Batch(self.users.get, list(self.users))
             self.assertTrue(batch.take("room", [Change("src/limits.rt", "ROOM: usize = 8;", new)]))
             self.assertEqual(batch.sources(), {"src/c.rt": self.users["src/c.rt"].replace(
