@@ -295,7 +295,8 @@ class Batch:
         """Writes the changed files into this copy of the crate, and the answers of each function's copy, which say its name."""
         for file, text in self.sources().items():
             pathlib.Path(folder, file).write_text(text)
-        for copied in {it for functions in self.functions.values() for it in functions if it.copied}:
+        # (a list, since copies of one function are equal)
+        for copied in [it for functions in self.functions.values() for it in functions if it.copied]:
             own = dataclasses.replace(copied, copied="")
             name = re.compile(r"\b((?:proofs|contracts)\." + re.escape(own.path().replace("::", ".")) + r")(?![\w-])")
             for file in pathlib.Path(folder, own.answers()).parent.glob("*.antt"):

@@ -241,11 +241,13 @@ class Batches(unittest.TestCase):
                 it.mkdir(parents=True)
             for name in "Answers.antt", "Invariants.antt":
                 (own / name).write_text(answers)
-            self.batch(one=edit("self.a + 5", "self.a + 9")).write(folder)
+            edits = [("one", edit("self.a + 5", "self.a + 9")), ("two", edit("self.a + 5", "self.a + 8"))]
+            (check,) = checks(batches(edits, FILES.get)[0])
+            check.write(folder)
             for name in "Answers.antt", "Invariants.antt":
-                copied = own.with_name("put_edited_0") / name
-                self.assertEqual(copied.read_text(), answers.replace("put.", "put_edited_0."))
                 self.assertEqual((own / name).read_text(), answers)
+                for copied in "put_edited_0", "put_edited_1":
+                    self.assertEqual((own.with_name(copied) / name).read_text(), answers.replace("put.", f"{copied}."))
 
     def test_a_body_that_is_not_wrong_is_found(self):
         batch = self.batch(wrong=edit("self.a + 1", "self.a + 9"), right=edit("self.a + 2", "2 + self.a"))
