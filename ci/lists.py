@@ -178,7 +178,7 @@ PLACES = {
             "crates/cose_cwt/specs/Claims.antt crates/cose_cwt/specs/Claims/Labels.antt "
             "crates/cose_cwt/specs/Claims/Form.antt crates/cose_cwt/specs/Claims/Known.antt "
             "crates/cose_cwt/specs/Claims/Known/View.antt crates/cose_cwt/proofs/KnownClaims.antt "
-            "crates/cosecmd/src/answer/cwt.rt crates/cosecmd/specs/Admitted.antt crates/cosecmd/proofs/WorkedAdmitted.antt "
+            "crates/cose_answers/src/answers/cwt.rt crates/cose_answers/specs/Admitted.antt crates/cose_answers/proofs/WorkedAdmitted.antt "
             "crates/cosecmd/proofs/WorkedRequirements.antt crates/cose_c/src/cose_claims.rt crates/cose_c/src/claims.rt "
             "crates/cose_c/specs/CoseClaims.antt crates/cose_c/specs/Claims.antt crates/cose_c/proofs/ClaimsForC.antt "
             "include/cose.h examples/c/gateway.c bindings/rust/src/claims.rs bindings/python/src/cose/tokens.py "
@@ -211,7 +211,8 @@ PLACES = {
     "option": [
         # (docs/COMMANDS.md is made of the rows by ci/option_tables; the second reading opens no file; a row makes none)
         Places("option", of_word, "crates/cosecmd/specs/*.antt"),
-        Places("value of an option", of_word, "crates/cosecmd/specs/*.antt rows/commands.json"),
+        Places("value of an option", of_word, "crates/cosecmd/specs/*.antt", "exp nbf iat cti"),
+        Places("value of an option", of_word, "rows/commands.json"),
         Places("option", of_option, "rows/commands.json", "payload-to"),
         Places("option", of_option, "ci/second_program.py", "key-file keys-file payload-file payload-length payload-to"),
         Places(

@@ -1,16 +1,5 @@
 pub mod lemmas
-pub mod WorkedAdmitted
 pub mod WorkedAllowed
-pub mod WorkedAsked
-pub mod WorkedDigests
-pub mod WorkedHeaders
-pub mod WorkedKept
-pub mod WorkedLimits
-pub mod WorkedListed
-pub mod WorkedMade
+pub mod WorkedLabels
 pub mod WorkedOptions
-pub mod WorkedPayloads
-pub mod WorkedPrinted
 pub mod WorkedRequirements
-pub mod WorkedSequences
-pub mod WorkedShown

@@ -7,9 +7,10 @@ use Rattle.cose_map.specs.KeySet.{keys_of}
 use Rattle.cose_map.specs.KeyTable.{table_of}
 use Rattle.cose_map.specs.Map.Read.{Read}
 use Rattle.cose_map.specs.Restrictions.{allowed_in, allowed_of, allows_material}
-use Rattle.cosecmd.specs.Allowed.{algorithms_listed, restricted, restrictions_in, unrestricted}
-use Rattle.cosecmd.specs.Limits.{Room}
-use Rattle.cosecmd.specs.Under.{program_keys}
+use Rattle.cosecmd.specs.Allowed.{algorithms_listed, restrictions_in}
+use Rattle.cose_answers.specs.Allowed.{restricted, unrestricted}
+use Rattle.cose_answers.specs.Limits.{Room}
+use Rattle.cose_answers.specs.Under.{program_keys}
 use Rattle.cosecmd.proofs.WorkedOptions.{given, number}
 
 -- ---- lists of algorithms

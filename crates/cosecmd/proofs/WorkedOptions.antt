@@ -7,16 +7,16 @@ use Rattle.hex.specs.Hex.{decode_pairs}
 use Rattle.cose_head.specs.declared.algorithm.Alg.TheVariants.{Hmac256}
 use Rattle.cose_map.specs.Key.{key_of}
 use Rattle.cose_msg.specs.declared.context.Wanted.TheVariants.{Mac0, Sign1, Tagged}
-use Rattle.cosecmd.specs.Admitted.{program_policy}
-use Rattle.cosecmd.specs.Allowed.{unrestricted}
+use Rattle.cose_answers.specs.Admitted.{program_policy}
+use Rattle.cose_answers.specs.Allowed.{unrestricted}
 use Rattle.cosecmd.specs.CommandLine.{line_prints}
-use Rattle.cosecmd.specs.Limits.{room_of}
+use Rattle.cose_answers.specs.Limits.{room_of}
 use Rattle.cosecmd.specs.Options.{algorithm_in, bytes_in, integer_in, key_set_in, kind_in, limits_in, number_in, optional_bytes_in, payload_in, text_in}
-use Rattle.cosecmd.specs.Printed.{admitted_under, made_under, shown, verified_under}
-use Rattle.cosecmd.specs.Requirements.{required_at}
-use Rattle.cosecmd.specs.Under.{Under, program_keys}
-use Rattle.cosecmd.specs.declared.limits.Limits.TheVariants.{Small, Large}
-use Rattle.cosecmd.proofs.WorkedPrinted.{briefly, plainly}
+use Rattle.cose_answers.specs.Printed.{admitted_under, made_under, shown, verified_under}
+use Rattle.cose_answers.specs.Requirements.{required_at}
+use Rattle.cose_answers.specs.Under.{Under, program_keys}
+use Rattle.cose_answers.specs.declared.limits.Limits.TheVariants.{Small, Large}
+use Rattle.cose_answers.proofs.WorkedPrinted.{briefly, plainly}
 
 -- An option with this argument; and one whose range has no negative number.
 abbrev pub given : Text → Text → Row

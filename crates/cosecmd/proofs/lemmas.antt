@@ -1,8 +1,2 @@
 pub mod Arguments
-pub mod Files
 pub mod Keys
-pub mod Making
-pub mod Messages
-pub mod Payloads
-pub mod Sequences
-pub mod Sizes

@@ -6,7 +6,7 @@ use Rattle.std.specs.Str.Parse.{signed_digits_value, without_leading_sign}
 use Rattle.clap.specs.Walk.{Text}
 use Rattle.cose_head.specs.Algorithm.{algorithm_number, algorithm_numbered}
 use Rattle.cose_map.specs.Restrictions.{RestrictionsValue}
-use Rattle.cosecmd.specs.declared.allowed.Allowed.{Allowed}
+use Rattle.cose_answers.specs.Allowed.{restricted}
 use Rattle.cosecmd.specs.Options.{Options, number_in, text_in}
 
 -- ---- the list of algorithms
@@ -48,18 +48,8 @@ algorithms_in options = algorithms_where_given (text_in (codes "algs") options)
 
 -- ---- both options
 
-abbrev pub restricted : ℕ → Option (List ℤ) → RestrictionsValue
-restricted least_secret algorithms = record { algorithms = algorithms; least_secret = least_secret }
-
--- Every usable key may be used.
-abbrev pub unrestricted : RestrictionsValue
-unrestricted = restricted 0 None
-
 abbrev pub least_secret_in : Options → ℕ
 least_secret_in options = unwrap_or (number_in (codes "least-secret") options) 0
 
 abbrev pub restrictions_in : Options → Option RestrictionsValue
 restrictions_in options = option_map (restricted (least_secret_in options)) (algorithms_in options)
-
-abbrev pub allowed_value : Allowed → RestrictionsValue
-allowed_value allowed = restricted allowed.least_secret (option_map (λ list. list.items) allowed.algorithms)

@@ -10,20 +10,20 @@ use Rattle.clap.specs.declared.builder.command.Command.{Command}
 use Rattle.clap.specs.declared.parser.matches.ArgMatches.{ArgMatches}
 use Rattle.cose_map.specs.Key.{key_of}
 use Rattle.cose_msg.specs.Sink.{AppendsFront}
-use Rattle.cosecmd.specs.Admitted.{program_policy}
-use Rattle.cosecmd.specs.Faults.{WritesLine}
+use Rattle.cose_answers.specs.Admitted.{program_policy}
+use Rattle.cose_answers.specs.Faults.{WritesLine}
 use Rattle.cosecmd.specs.Options.{Options, ◌>>=◌, algorithm_in, bytes_in, details_in, flag_in, integer_in, key_in, key_set_in, kind_in, limits_in, message_in, number_in, optional_bytes_in, payload_in, printing_in, text_in}
 use Rattle.cosecmd.specs.Fields.{checks_in, digest_checks_in}
 use Rattle.cosecmd.specs.Headers.{labels_in}
 use Rattle.cosecmd.specs.InputForm.{input_bytes}
-use Rattle.cosecmd.specs.MakeStops.{StopsMaking}
-use Rattle.cosecmd.specs.Printed.{Admits, EndsWith, Fails, Output, admitted_under, digested_under, keys_said, made_under, shown, verified_for}
+use Rattle.cose_answers.specs.MakeStops.{StopsMaking}
+use Rattle.cose_answers.specs.Printed.{Admits, EndsWith, Fails, Output, admitted_under, digested_under, keys_said, made_under, shown, verified_for}
 use Rattle.cosecmd.specs.Requirements.{requirements_in}
-use Rattle.cosecmd.specs.Sequence.{FailsInSequence, admitted_sequence, verified_sequence}
-use Rattle.cosecmd.specs.Arguments.{asked_for, is_sequence, makes, payload_for}
-use Rattle.cosecmd.specs.declared.fault.Fault.{Fault}
-use Rattle.cosecmd.specs.declared.reply.Status.TheVariants as statuses
-use Rattle.cosecmd.specs.declared.request.Request.{Request}
+use Rattle.cose_answers.specs.Sequence.{FailsInSequence, admitted_sequence, verified_sequence}
+use Rattle.cose_answers.specs.Requests.{asked_for, is_sequence, makes, payload_for}
+use Rattle.cose_answers.specs.declared.fault.Fault.{Fault}
+use Rattle.cose_answers.specs.declared.reply.Status.TheVariants as statuses
+use Rattle.cose_answers.specs.declared.request.Request.{Request}
 use Rattle.cosecmd.specs.declared.arguments.Parsed.{Parsed}
 use Rattle.cosecmd.specs.declared.arguments.Parsed.TheVariants.{Matches, Text as Reply}
 

@@ -5,14 +5,14 @@ use Rattle.cose_msg.specs.declared.context.Wanted.TheVariants as wants
 use Rattle.cose_cwt.specs.Claims.Audience.{text_value}
 use Rattle.cosecmd.specs.Options.{Options, ◌>>=◌, algorithm_in, bytes_in, integer_in, key_in, key_set_in, kind_in, limits_in, message_in, number_in, optional_bytes_in, printing_in, text_in}
 use Rattle.cosecmd.specs.Allowed.{restrictions_in}
-use Rattle.cosecmd.specs.Limits.{room_of}
-use Rattle.cosecmd.specs.Printed.{ItemsPrint, keys_print}
+use Rattle.cose_answers.specs.Limits.{room_of}
+use Rattle.cose_answers.specs.Printed.{ItemsPrint, keys_print}
 use Rattle.cosecmd.specs.Requirements.{RequiredFields}
-use Rattle.cosecmd.specs.Under.{Under, under_of, program_keys}
-use Rattle.cosecmd.specs.declared.request.Cwt.{Cwt}
-use Rattle.cosecmd.specs.declared.request.Keys.{Keys}
-use Rattle.cosecmd.specs.declared.request.Make.{Make}
-use Rattle.cosecmd.specs.declared.request.Checks.{Checks}
+use Rattle.cose_answers.specs.Under.{Under, under_of, program_keys}
+use Rattle.cose_answers.specs.declared.request.Cwt.{Cwt}
+use Rattle.cose_answers.specs.declared.request.Keys.{Keys}
+use Rattle.cose_answers.specs.declared.request.Make.{Make}
+use Rattle.cose_answers.specs.declared.request.Checks.{Checks}
 
 -- The keys of these bytes are those of the argument, or of the file that is named, where its bytes are known.
 abbrev pub HasKeysOf : (List ℕ → Option (List ℕ)) → Options → List ℕ → Type 0

@@ -1,5 +1,5 @@
 -- What the options of a command say: the value of each, by the argument that clap found for its name.
-use Rattle.std.specs.Prelude.{ℕ, ℤ, Bool, List, [], Option, Some, None, Result, Ok, Err, length, take, nat_lt, option_and_then, option_map, unwrap_or, codes, pos, if◌then◌else◌}
+use Rattle.std.specs.Prelude.{ℕ, ℤ, Bool, List, [], Option, Some, None, Result, Ok, Err, option_and_then, option_map, unwrap_or, codes, pos, if◌then◌else◌}
 use Rattle.std.specs.Str.{bytes_eq}
 use Rattle.std.specs.Str.Parse.{digits_value, signed_digits_value, without_leading_plus}
 use Rattle.clap.specs.Matches.{found_of}
@@ -11,10 +11,11 @@ use Rattle.cose_head.specs.declared.algorithm.Alg.{Alg}
 use Rattle.cose_head.specs.Algorithm.{algorithm_numbered}
 use Rattle.cose_msg.specs.declared.context.Wanted.{Wanted}
 use Rattle.cose_msg.specs.declared.context.Wanted.TheVariants as wants
-use Rattle.cosecmd.specs.declared.request.Details.{Details}
-use Rattle.cosecmd.specs.declared.request.Printing.{Printing}
-use Rattle.cosecmd.specs.declared.limits.Limits.{Limits}
-use Rattle.cosecmd.specs.declared.limits.Limits.TheVariants as limits
+use Rattle.cose_answers.specs.declared.request.Details.{Details}
+use Rattle.cose_answers.specs.declared.request.Printing.{Printing}
+use Rattle.cose_answers.specs.Payload.{part_of_file}
+use Rattle.cose_answers.specs.declared.limits.Limits.{Limits}
+use Rattle.cose_answers.specs.declared.limits.Limits.TheVariants as limits
 
 -- The options of one command, each with its arguments, and with its default where it is left out.
 abbrev pub Options : Type 0
@@ -122,14 +123,6 @@ key_set_in content options = of_file content (text_in (codes "keys-file") option
 
 abbrev pub key_in : (List ℕ → Option (List ℕ)) → Options → Option (List ℕ)
 key_in content options = of_file content (text_in (codes "key-file") options) (bytes_in (codes "key") options)
-
--- So many first bytes as are stated, where there are as many; all bytes, where no number is stated.
-abbrev pub stated_part : Option ℕ → List ℕ → Option (List ℕ)
-stated_part None bytes = Some bytes
-stated_part (Some count) bytes = if nat_lt (length bytes) count then None else Some (take count bytes)
-
-abbrev pub part_of_file : (List ℕ → Option (List ℕ)) → Text → Option ℕ → Option (List ℕ)
-part_of_file content name stated = option_and_then (stated_part stated) (content name)
 
 -- The detached payload, where there is one. Of a file with fewer bytes than are stated there is none.
 abbrev pub payload_from : (List ℕ → Option (List ℕ)) → Option ℕ → Option Text → Option (Option (List ℕ)) → Option (Option (List ℕ))

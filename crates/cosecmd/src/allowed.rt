@@ -2,25 +2,15 @@
 
 ghost use Rattle.std.specs.Prelude.{◌≡◌, ◌==◌, IfOk, Some, codes, map, option_map, unwrap_or};
 ghost use Rattle.std.specs.List.{slice_split};
-ghost use Rattle.cose_map.specs.Restrictions.View.{numbers, restrictions_value};
+ghost use Rattle.cose_answers.specs.Allowed.{allowed_value};
 ghost use Rattle.cosecmd.specs.Allowed as spec;
 ghost use Rattle.cosecmd.specs.Options.{number_in, options_of};
 
 use crate::arguments::text_of;
-use crate::fault::Fault;
 use clap::ArgMatches;
-use cose_map::Restrictions;
+use cose_answers::{Allowed, Fault};
 use cose_msg::Alg;
 use std::alloc::{AllocError, Global};
-
-/// Which keys may be used.
-#[derive(Drop)]
-pub struct Allowed {
-    /// The numbers of the algorithms that are allowed, where there is a list of them.
-    pub algorithms: Option<Vec<i128>>,
-    /// The fewest bytes of a symmetric key.
-    pub least_secret: usize,
-}
 
 /// A number, where an algorithm has it.
 fn known(number: i128) -> Option<i128>
@@ -112,7 +102,7 @@ fn least_secret_of(matches: &ArgMatches) -> Result<usize, Fault>
 /// Which keys the arguments allow.
 pub fn allowed_of(alloc: Global, matches: &ArgMatches) -> Result<Allowed, Fault>
     ensures { IfOk result (λ allowed. spec.restrictions_in (options_of matches.now)
-        ≡ Some (spec.allowed_value allowed)) }
+        ≡ Some (allowed_value allowed)) }
 {
     let algorithms = algorithms_of(alloc, matches)?;
     let least_secret = least_secret_of(matches)?;
@@ -120,26 +110,4 @@ pub fn allowed_of(alloc: Global, matches: &ArgMatches) -> Result<Allowed, Fault>
         algorithms,
         least_secret,
     })
-}
-
-/// The numbers of a list, where there is one.
-fn slice_of_numbers(list: &Option<Vec<i128>>) -> Option<&[i128]>
-    ensures { option_map numbers result ≡ option_map (λ list. list.items) list.now }
-{
-    match list {
-        Some(list) => Some(list.as_slice()),
-        None => None,
-    }
-}
-
-impl Allowed {
-    /// The same, as a table of keys takes it.
-    pub fn borrowed(&self) -> Restrictions<'_>
-        ensures { restrictions_value result ≡ spec.allowed_value self.now }
-    {
-        Restrictions {
-            algorithms: slice_of_numbers(&self.algorithms),
-            least_secret: self.least_secret,
-        }
-    }
 }

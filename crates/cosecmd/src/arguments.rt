@@ -7,21 +7,22 @@ ghost use Rattle.cose_cwt.specs.Claims.Audience.{text_value};
 ghost use Rattle.cosecmd.specs.CommandLine.{AsksFor, IsReadFrom, ask_for_help, begins_as_answer, cwt_prints, digest_prints, is_for_help as is_for_help_in, is_of_sequence, matches_print, message_prints, payload_named, sequence_prints, verify_payload, verify_prints};
 ghost use Rattle.cosecmd.specs.Fields.{AreChecks, CwtFields, HasKeysOf, IsKeyOf, IsListedAs, KeysFields, MakeFields, checks_in, digest_checks_in};
 ghost use Rattle.cosecmd.specs.Options.{algorithm_in, bytes_in, details_in, flag_in, hex_bytes, integer_in, kind_in, kind_named, limits_in, limits_named, message_in, number_in, optional_bytes_in, options_of, payload_in, printing_in, text_in};
-ghost use Rattle.cosecmd.specs.Payload.{IsFile, detached_in};
-ghost use Rattle.cosecmd.specs.PayloadTo.{AsksToVerify, KeepsUnder, checks_named, new_file_for, new_file_of};
-ghost use Rattle.cosecmd.specs.Printed.{Output};
-ghost use Rattle.cosecmd.specs.Arguments.{is_sequence, makes, payload_for};
+ghost use Rattle.cose_answers.specs.Payload.{IsFile, detached_in};
+ghost use Rattle.cosecmd.specs.PayloadTo.{AsksToVerify, KeepsUnder, checks_named, new_file_of};
+ghost use Rattle.cose_answers.specs.PayloadTo.{new_file_for};
+ghost use Rattle.cose_answers.specs.Printed.{Output};
+ghost use Rattle.cose_answers.specs.Requests.{is_sequence, makes, payload_for};
 
 use crate::allowed::allowed_of;
-use crate::fault::Fault;
 use crate::files::{key_bytes, key_set_bytes};
 use crate::labels::labels_of;
-use crate::limits::Limits;
-use crate::reply::{Reply, Status};
-use crate::request::{Checks, Cwt, Details, Keys, Make, Payload, Printing, Question, Request};
 use crate::requirements::required_of;
 use clap::ArgMatches;
 use clap::error::ErrorKind;
+use cose_answers::{
+    Checks, Cwt, Details, Fault, Keys, Limits, Make, Payload, Printing, Question, Reply, Request,
+    Status,
+};
 use cose_commands::{line, mistake};
 use cose_files::NamedFiles;
 use cose_msg::{Alg, Wanted};

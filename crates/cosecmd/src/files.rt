@@ -2,9 +2,9 @@
 
 ghost use Rattle.std.specs.Prelude.{◌≡◌, ◌⊎◌, ℕ, List, Some, IfErr, IfOk, take};
 ghost use Rattle.cose_map.specs.KeySet.{keys_of};
-ghost use Rattle.cosecmd.specs.Printed.{ItemsPrint, keys_print};
+ghost use Rattle.cose_answers.specs.Printed.{ItemsPrint, keys_print};
 
-use crate::fault::Fault;
+use cose_answers::Fault;
 use cose_files::NamedFiles;
 use std::alloc::Global;
 use std::io;

@@ -6,9 +6,8 @@ ghost use Rattle.std.specs.Str.Parse.{signed_digits_value};
 ghost use Rattle.cosecmd.specs.Headers as spec;
 ghost use Rattle.cosecmd.specs.Options.{options_of};
 
-use crate::fault::Fault;
-use crate::notation::quoted;
 use clap::ArgMatches;
+use cose_answers::{Fault, quoted};
 use std::alloc::Global;
 
 /// Whether a text begins as a number does.

@@ -7,24 +7,12 @@ ghost use Rattle.std.specs.Prelude.{◌≡◌};
 ghost use Rattle.std.specs.Process.{exit_status};
 
 mod allowed;
-mod answer;
 mod arguments;
-mod fault;
 mod files;
-mod input;
 mod input_form;
 mod labels;
-mod limits;
-mod line;
-mod notation;
-mod payload_file;
-mod print;
-mod reply;
-mod request;
 mod requirements;
 mod run;
-mod vouch;
-mod write_sink;
 
 use allowed::wrong_part;
 use cose_hints::{

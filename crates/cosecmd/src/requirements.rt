@@ -2,32 +2,14 @@
 
 ghost use Rattle.std.specs.Prelude.{◌≡◌, Some, IfOk, true, codes, map, option_map};
 ghost use Rattle.cose_cwt.specs.Claims.Audience.{text_value};
-ghost use Rattle.cose_cwt.specs.Requirements.View.{requirements_value};
 ghost use Rattle.cosecmd.specs.Options.{flag_in, number_in, options_of, text_in};
 ghost use Rattle.cosecmd.specs.Requirements as spec;
 
 use crate::arguments::{flag_of, text_of};
-use crate::fault::Fault;
 use clap::ArgMatches;
-use cose_cwt::{Claim, Requirements};
+use cose_answers::{Fault, Required};
+use cose_cwt::Claim;
 use std::alloc::{AllocError, Global};
-
-/// What a token has to meet.
-#[derive(Drop)]
-pub struct Required<'w> {
-    /// The claims that have to be present.
-    pub present: Vec<Claim>,
-    /// The issuer, where one is stated.
-    pub iss: Option<&'w str>,
-    /// The subject, where one is stated.
-    pub sub: Option<&'w str>,
-    /// The audience that has to be named, where one has.
-    pub aud: Option<&'w str>,
-    /// The longest lifetime in seconds, where one is stated.
-    pub lifetime: Option<u64>,
-    /// The greatest age in seconds, where one is stated.
-    pub age: Option<u64>,
-}
 
 /// The claims of names, where each is the name of a claim.
 fn claims_of(alloc: Global, names: &[&str]) -> Result<Option<Vec<Claim>>, AllocError>
@@ -129,21 +111,4 @@ pub fn required_of<'a>(alloc: Global, matches: &ArgMatches<'a>) -> Result<Requir
         lifetime,
         age,
     })
-}
-
-/// What is required at this time, with this leeway.
-pub fn requirements_of<'j>(required: &'j Required<'j>, now: i64, leeway: u32) -> Requirements<'j>
-    ensures { requirements_value result ≡ spec.requirements_for now leeway required.entry.now }
-{
-    Requirements {
-        now,
-        leeway,
-        present: required.present.as_slice(),
-        iss: required.iss,
-        sub: required.sub,
-        aud: required.aud,
-        lifetime: required.lifetime,
-        age: required.age,
-        issued: required.age.is_some(),
-    }
 }

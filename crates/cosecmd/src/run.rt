@@ -5,10 +5,9 @@ ghost use Rattle.cose_text.specs.TextInput.{reader_of};
 ghost use Rattle.cosecmd.specs.CommandLine.{Answers, FailsOn, IsAsked};
 ghost use Rattle.cosecmd.specs.PayloadTo.{EndsWithFile, KeepsPayload, ReadsNothingBefore};
 
-use crate::answer::answer;
 use crate::arguments::{Parsed, parse, request_of};
 use crate::input_form::input_form_of;
-use crate::print::{print, print_fault};
+use cose_answers::{answer, print, print_fault};
 use cose_files::{NamedFiles, NewFiles};
 use cose_text::TextInput;
 use std::alloc::Global;

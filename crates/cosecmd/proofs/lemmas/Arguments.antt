@@ -1,4 +1,3 @@
-pub mod Asked
 pub mod AskedMaking
 pub mod AskedSequences
 pub mod ChecksAsked

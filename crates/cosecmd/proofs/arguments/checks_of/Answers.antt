@@ -1,5 +1,5 @@
 use Rattle.std.proofs.Common.{option_map}
-use Rattle.cosecmd.specs.Allowed.{allowed_value}
+use Rattle.cose_answers.specs.Allowed.{allowed_value}
 use Rattle.cosecmd.specs.Options.{options_of}
 use Rattle.cosecmd.proofs.lemmas.Arguments.ChecksAsked.{checks_said}
 use Rattle.cosecmd.proofs.arguments.checks_of.Goals as goal

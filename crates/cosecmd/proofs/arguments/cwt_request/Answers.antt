@@ -1,8 +1,8 @@
 use Rattle.std.proofs.Common.{◌≡◌, ◌∙◌, None, Some, codes, false, refl, sym, true}
 use Rattle.cosecmd.specs.CommandLine.{tokens_print}
 use Rattle.cosecmd.specs.Options.{flag_in, options_of}
-use Rattle.cosecmd.specs.Printed.{admitted_under}
-use Rattle.cosecmd.specs.Sequence.{admitted_sequence}
+use Rattle.cose_answers.specs.Printed.{admitted_under}
+use Rattle.cose_answers.specs.Sequence.{admitted_sequence}
 use Rattle.cosecmd.proofs.lemmas.Arguments.CommandLines.{cwt_asks}
 use Rattle.cosecmd.proofs.arguments.cwt_request.Goals as goal
 

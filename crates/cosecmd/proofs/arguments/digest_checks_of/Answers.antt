@@ -1,4 +1,4 @@
-use Rattle.cosecmd.specs.Allowed.{allowed_value}
+use Rattle.cose_answers.specs.Allowed.{allowed_value}
 use Rattle.cosecmd.specs.Options.{options_of}
 use Rattle.cosecmd.proofs.lemmas.Arguments.ChecksAsked.{digest_checks_said}
 use Rattle.cosecmd.proofs.arguments.digest_checks_of.Goals as goal

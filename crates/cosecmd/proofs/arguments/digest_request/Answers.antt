@@ -1,4 +1,4 @@
-use Rattle.cosecmd.specs.Printed.{digested_under}
+use Rattle.cose_answers.specs.Printed.{digested_under}
 use Rattle.cosecmd.proofs.lemmas.Arguments.CommandLines.{payload_asks}
 use Rattle.cosecmd.proofs.arguments.digest_request.Goals as goal
 

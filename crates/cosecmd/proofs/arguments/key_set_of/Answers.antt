@@ -2,7 +2,7 @@ use Rattle.std.proofs.Common.{ap, codes}
 use Rattle.std.proofs.lemmas.Result.{IfOk-weaker}
 use Rattle.cosecmd.specs.Options.{options_of}
 use Rattle.cose_map.specs.KeySet.{keys_of}
-use Rattle.cosecmd.specs.Printed.{keys_print}
+use Rattle.cose_answers.specs.Printed.{keys_print}
 use Rattle.cosecmd.proofs.lemmas.Arguments.Options.{given, left_out, of_named_file, of_no_file, where_known}
 use Rattle.cosecmd.proofs.arguments.key_set_of.Goals as goal
 

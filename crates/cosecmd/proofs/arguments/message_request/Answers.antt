@@ -2,8 +2,8 @@ use Rattle.std.proofs.Common.{List, Some, ap, ◌∙◌, ℕ}
 use Rattle.std.proofs.lemmas.Result.{IfOk-weaker}
 use Rattle.cosecmd.specs.Headers.{labels_in}
 use Rattle.cosecmd.specs.Options.{options_of}
-use Rattle.cosecmd.specs.Printed.{verified_for}
-use Rattle.cosecmd.specs.Under.{under_of}
+use Rattle.cose_answers.specs.Printed.{verified_for}
+use Rattle.cose_answers.specs.Under.{under_of}
 use Rattle.cosecmd.proofs.lemmas.Arguments.CommandLines.{payload_asks}
 use Rattle.cosecmd.proofs.arguments.message_request.Goals as goal
 

@@ -4,7 +4,7 @@ use Rattle.clap.specs.Matches.{found_of}
 use Rattle.clap.specs.Walk.{Text}
 use Rattle.clap.proofs.WalkLemmas.{first_value-rows}
 use Rattle.cosecmd.specs.Options.{number_in, optional_bytes_in, options_of, payload_from}
-use Rattle.cosecmd.specs.Payload.{detached_in}
+use Rattle.cose_answers.specs.Payload.{detached_in}
 use Rattle.cosecmd.proofs.lemmas.Arguments.Options.{given, left_out, not_given, same_argument}
 use Rattle.cosecmd.proofs.arguments.payload_of.Goals as goal
 

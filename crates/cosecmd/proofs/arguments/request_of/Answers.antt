@@ -3,7 +3,8 @@ use Rattle.std.proofs.lemmas.Result.{IfOk-weaker}
 use Rattle.cosecmd.specs.CommandLine.{cwt_prints, has_sequence, keys_prints, make_prints}
 use Rattle.cosecmd.specs.Options.{options_of}
 use Rattle.cosecmd.proofs.lemmas.Arguments.CommandLines.{checks_met, command_asked, command_met, keys_asks, make_asks, payload_met}
-use Rattle.cosecmd.proofs.lemmas.Arguments.KeptRequests.{keeps_none, names_none}
+use Rattle.cosecmd.proofs.lemmas.Arguments.KeptRequests.{keeps_none}
+use Rattle.cose_answers.proofs.lemmas.Requests.KeptRequests.{none_named}
 use Rattle.cosecmd.proofs.arguments.request_of.Goals as goal
 
 pub returns-in-Some-subcommand_matches-2-clause-asks : goal.returns-in-Some-subcommand_matches-2-clause-asks
@@ -81,7 +82,7 @@ returns-in_ok-make_of-in-Some-subcommand_matches-5-clause-payload g c =
     payload_met content c.args.matches.now (codes "make") (options_of met.make.now) (Some None) (met.ensures.found.0 refl) met.ensures.rows refl
 
 pub returns-in-Some-clause-kept : goal.returns-in-Some-clause-kept
-returns-in-Some-clause-kept g c = λ name under named said. names_none name _ named
+returns-in-Some-clause-kept g c = λ name under named said. none_named name _ named
 
 pub returns-in-Some-subcommand_matches-clause-kept : goal.returns-in-Some-subcommand_matches-clause-kept
 returns-in-Some-subcommand_matches-clause-kept g c =
@@ -97,7 +98,7 @@ pub returns-in-Some-subcommand_matches-3-clause-kept : goal.returns-in-Some-subc
 returns-in-Some-subcommand_matches-3-clause-kept g c = IfOk-weaker c.digest_request.result _ _ (λ request none. keeps_none _ request none) c.digest_request.ensures.keeps
 
 pub returns-in-Some-subcommand_matches-4-clause-kept : goal.returns-in-Some-subcommand_matches-4-clause-kept
-returns-in-Some-subcommand_matches-4-clause-kept g c = λ name under named said. names_none name _ named
+returns-in-Some-subcommand_matches-4-clause-kept g c = λ name under named said. none_named name _ named
 
 pub returns-in_ok-make_of-in-Some-subcommand_matches-5-clause-kept : goal.returns-in_ok-make_of-in-Some-subcommand_matches-5-clause-kept
-returns-in_ok-make_of-in-Some-subcommand_matches-5-clause-kept g c = λ name under named said. names_none name _ named
+returns-in_ok-make_of-in-Some-subcommand_matches-5-clause-kept g c = λ name under named said. none_named name _ named

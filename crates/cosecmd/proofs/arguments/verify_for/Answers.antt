@@ -1,9 +1,9 @@
 use Rattle.std.proofs.Common.{◌≡◌, ◌∙◌, ◌==◌, false, List, length, refl, string_bytes, subst, sym, true, ℕ}
 use Rattle.std.proofs.lemmas.Result.{IfOk-weaker}
 use Rattle.cosecmd.specs.PayloadTo.{AsksToVerify}
-use Rattle.cosecmd.specs.Under.{under_of}
-use Rattle.cosecmd.proofs.lemmas.Messages.HeaderLabels.{no_labels, some_headed}
-use Rattle.cosecmd.proofs.lemmas.Arguments.KeptRequests.{names_none}
+use Rattle.cose_answers.specs.Under.{under_of}
+use Rattle.cose_answers.proofs.lemmas.Messages.HeaderLabels.{no_labels, some_headed}
+use Rattle.cose_answers.proofs.lemmas.Requests.KeptRequests.{none_named}
 use Rattle.cosecmd.proofs.arguments.verify_for.Goals as goal
 
 pub returns-then-is_empty-clause-asks : goal.returns-then-is_empty-clause-asks
@@ -19,5 +19,5 @@ returns-clause-asks c =
       asked = λ detached bytes. some_headed string_bytes c.args.labels.items (under_of c.args.checks) detached bytes some;
       makes_none = refl;
       one = refl;
-      kept = λ name named. names_none name _ named;
+      kept = λ name named. none_named name _ named;
     }

@@ -1,4 +1,4 @@
-use Rattle.cosecmd.proofs.lemmas.Keys.KeyFiles.{first_read}
+use Rattle.cose_answers.proofs.lemmas.Files.FirstBytes.{first_read}
 use Rattle.cosecmd.proofs.files.first_bytes.Goals as goal
 
 pub returns : goal.returns

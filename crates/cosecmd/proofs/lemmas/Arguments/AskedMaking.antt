@@ -1,16 +1,24 @@
 -- What the arguments of `make` ask for, and what a run leaves that stops.
 use Rattle.std.proofs.Common.{◌≡◌, ◌⊎◌, Bool, true, false, ℕ, List, Option, None, inl, inr, refl, ◌∙◌}
-use Rattle.cosecmd.specs.Arguments.{asked_for, made_for, makes}
+use Rattle.cose_answers.specs.Requests.{asked_for, makes}
 use Rattle.cosecmd.specs.CommandLine.{AsksFor}
-use Rattle.cosecmd.specs.MakeStops.{StopsMaking}
-use Rattle.cosecmd.specs.Printed.{Fails, Output}
-use Rattle.cosecmd.specs.declared.request.Make.{Make}
-use Rattle.cosecmd.specs.declared.request.Request.{Request}
-use Rattle.cosecmd.specs.declared.request.Request.TheVariants as asks
-use Rattle.cosecmd.proofs.lemmas.Making.MakeStops.{stops_same}
+use Rattle.cose_answers.specs.MakeStops.{StopsMaking}
+use Rattle.cose_answers.specs.Printed.{Fails, Output}
+use Rattle.cose_answers.specs.declared.request.Make.{Make}
+use Rattle.cose_answers.specs.declared.request.Request.{Request}
+use Rattle.cose_answers.specs.declared.request.Request.TheVariants as asks
+use Rattle.cose_answers.proofs.lemmas.Making.MakeStops.{stops_same}
 
-pub made_words : (request : Request) (words : Make) (payload : Option (List ℕ)) (bytes : List ℕ) → request ≡ asks.Make words → made_for words bytes ≡ asked_for request payload bytes
-made_words request words payload bytes is = rw is refl
+-- A message is made only by the command of this name.
+pub not_made : (request : Request) (A : Type 0) → (makes request ≡ true → A) → (A → ⊥) → makes request ≡ false
+not_made (asks.Make words) A by_name other = absurd (other (by_name refl))
+not_made (asks.Show limits wanted details) A by_name other = refl
+not_made (asks.Message question checks from) A by_name other = refl
+not_made (asks.Keep checks name) A by_name other = refl
+not_made (asks.MessageSequence checks) A by_name other = refl
+not_made (asks.Cwt words) A by_name other = refl
+not_made (asks.TokenSequence words) A by_name other = refl
+not_made (asks.Keys words) A by_name other = refl
 
 -- What is made depends on no payload that the arguments name.
 of_no_payload : (request : Request) (payload : Option (List ℕ)) (input : List ℕ) → makes request ≡ true → asked_for request None input ≡ asked_for request payload input

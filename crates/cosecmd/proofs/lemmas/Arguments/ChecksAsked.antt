@@ -5,10 +5,10 @@ use Rattle.cose_msg.specs.declared.context.Wanted.TheVariants as wants
 use Rattle.cose_map.specs.Restrictions.{RestrictionsValue}
 use Rattle.cosecmd.specs.Allowed.{restrictions_in}
 use Rattle.cosecmd.specs.Fields.{HasKeysOf, checks_in, digest_checks_in}
-use Rattle.cosecmd.specs.Limits.{Room, room_of}
+use Rattle.cose_answers.specs.Limits.{Room, room_of}
 use Rattle.cosecmd.specs.Options.{Options, bytes_in, key_set_in, kind_in, limits_in, optional_bytes_in}
-use Rattle.cosecmd.specs.declared.limits.Limits.{Limits}
-use Rattle.cosecmd.specs.Under.{Under, program_keys}
+use Rattle.cose_answers.specs.declared.limits.Limits.{Limits}
+use Rattle.cose_answers.specs.Under.{Under, program_keys}
 
 abbrev pub stated : Room → RestrictionsValue → List ℕ → List ℕ → Wanted → Option (List ℕ) → Under
 stated room restrictions keys aad wanted vouch = record { room = room; keys = program_keys room restrictions keys; aad = aad; wanted = wanted; vouch = vouch }

@@ -10,23 +10,23 @@ use Rattle.cose_map.specs.Key.{key_of}
 use Rattle.cose_cwt.specs.Claims.Audience.{text_value}
 use Rattle.cose_cwt.specs.Requirements.{RequirementsValue}
 use Rattle.cose_msg.specs.declared.context.Wanted.{Wanted}
-use Rattle.cosecmd.specs.Admitted.{program_policy}
-use Rattle.cosecmd.specs.AskedKeys.{asked}
+use Rattle.cose_answers.specs.Admitted.{program_policy}
+use Rattle.cose_answers.specs.AskedKeys.{asked}
 use Rattle.cosecmd.specs.CommandLine.{IsFoundIn, IsReadFrom, ask_for_help, begins_as_answer, command_prints, keys_prints, line_prints, make_prints, matches_print, payload_named, tokens_print}
 use Rattle.cosecmd.specs.Fields.{AreChecks, CwtFields, IsListedAs, KeysFields, MakeFields, checks_in}
 use Rattle.cosecmd.specs.Options.{Options, ◌>>=◌, key_in, key_set_in, message_in, printing_in, text_in}
 use Rattle.cosecmd.specs.PayloadTo.{checks_named, new_file_of}
-use Rattle.cosecmd.specs.Printed.{Admits, Output, items_listed, items_listed_for, keys_said, made_under}
+use Rattle.cose_answers.specs.Printed.{Admits, Output, items_listed, items_listed_for, keys_said, made_under}
 use Rattle.cosecmd.specs.Requirements.{requirements_with}
-use Rattle.cosecmd.specs.Under.{Under, under_of}
-use Rattle.cosecmd.specs.Arguments.{admits_for_words, made_for}
-use Rattle.cosecmd.specs.declared.request.Cwt.{Cwt}
-use Rattle.cosecmd.specs.declared.request.Keys.{Keys}
-use Rattle.cosecmd.specs.declared.request.Make.{Make}
-use Rattle.cosecmd.specs.declared.request.Printing.{Printing}
-use Rattle.cosecmd.specs.declared.request.Checks.{Checks}
-use Rattle.cosecmd.specs.declared.reply.Reply.{Reply}
-use Rattle.cosecmd.specs.declared.reply.Status.TheVariants as statuses
+use Rattle.cose_answers.specs.Under.{Under, under_of}
+use Rattle.cose_answers.specs.Requests.{admits_for_words, made_for}
+use Rattle.cose_answers.specs.declared.request.Cwt.{Cwt}
+use Rattle.cose_answers.specs.declared.request.Keys.{Keys}
+use Rattle.cose_answers.specs.declared.request.Make.{Make}
+use Rattle.cose_answers.specs.declared.request.Printing.{Printing}
+use Rattle.cose_answers.specs.declared.request.Checks.{Checks}
+use Rattle.cose_answers.specs.declared.reply.Reply.{Reply}
+use Rattle.cose_answers.specs.declared.reply.Status.TheVariants as statuses
 use Rattle.cosecmd.specs.declared.arguments.Parsed.{Parsed}
 use Rattle.cosecmd.specs.declared.arguments.Parsed.TheVariants.{Matches, Text as ClapText}
 use Rattle.cosecmd.proofs.lemmas.Arguments.RequiredOptions.{same_requirements}

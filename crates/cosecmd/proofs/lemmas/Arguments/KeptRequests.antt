@@ -1,28 +1,11 @@
--- A request that keeps a payload in a new file, and what becomes of the file.
-use Rattle.std.proofs.Common.{◌≡◌, ℕ, true, false, List, Option, Some, None, Bor, sym, ap, subst, ◌∙◌}
+-- The new file that the arguments name for a payload, and what becomes of it.
+use Rattle.std.proofs.Common.{◌≡◌, ℕ, List, Option, Some, None, sym, ◌∙◌}
 use Rattle.clap.specs.Walk.{Text}
 use Rattle.cose_files.specs.NewFile.{Made}
-use Rattle.cosecmd.specs.Arguments.{asked_for, payload_for}
-use Rattle.cosecmd.specs.PayloadTo.{KeepsUnder, Settles, SettlesNamed, kept_under, new_file_for}
-use Rattle.cosecmd.specs.Printed.{verified_under}
-use Rattle.cosecmd.specs.Under.{Under, under_of}
-use Rattle.cosecmd.specs.declared.request.Checks.{Checks}
-use Rattle.cosecmd.specs.declared.request.Request.{Request}
-use Rattle.cosecmd.specs.declared.request.Request.TheVariants as asks
-
-pub kept_name : (request : Request) (checks : Checks) (file : Bor (List ℕ)) (name : List ℕ) → request ≡ asks.Keep checks file → new_file_for request ≡ Some name → file.now ≡ name
-kept_name request checks file name is named =
-    let same : Some file.now ≡ Some name = sym (ap new_file_for is) ∙ named in
-    cc
-
-pub kept_checks : (request : Request) (checks : Checks) (file : Bor (List ℕ)) (under : Under) → request ≡ asks.Keep checks file → kept_under request ≡ Some under → under_of checks ≡ under
-kept_checks request checks file under is kept =
-    let same : Some (under_of checks) ≡ Some under = sym (ap kept_under is) ∙ kept in
-    cc
-
-pub settles_name : (request : Request) (checks : Checks) (file : Bor (List ℕ)) (name : List ℕ) (old new : Made) (status : ℕ) → request ≡ asks.Keep checks file → new_file_for request ≡ Some name →
-    Settles file.now old new status → Settles name old new status
-settles_name request checks file name old new status is named settles = subst (λ (n : List ℕ). Settles n old new status) (kept_name request checks file name is named) settles
+use Rattle.cosecmd.specs.PayloadTo.{KeepsUnder, SettlesNamed}
+use Rattle.cose_answers.specs.PayloadTo.{Settles, new_file_for}
+use Rattle.cose_answers.specs.Under.{Under}
+use Rattle.cose_answers.specs.declared.request.Request.{Request}
 
 -- What becomes of the file that the arguments name.
 pub settles_named : (request : Request) (file : Option Text) (old new : Made) (status : ℕ) → new_file_for request ≡ file → ((name : List ℕ) → new_file_for request ≡ Some name → Settles name old new status) →
@@ -35,27 +18,3 @@ pub keeps_none : (said : Option Under) (request : Request) → new_file_for requ
 keeps_none said request none name under named is =
     let no : None ≡ Some name = sym none ∙ named in
     absurd cc
-
-pub names_none : (name : List ℕ) (A : Type 0) → None ≡ Some name → A
-names_none name A named = absurd cc
-
--- What a request keeps is in the message.
-pub kept_in_message : (request : Request) (checks : Checks) (file : Bor (List ℕ)) (content : List ℕ → Option (List ℕ)) (payload : Option (List ℕ)) (bytes : List ℕ) → request ≡ asks.Keep checks file →
-    payload_for content request ≡ Some payload → verified_under (under_of checks) None bytes ≡ asked_for request payload bytes
-kept_in_message request checks file content payload bytes is known =
-    let same : Some None ≡ Some payload = sym (ap (payload_for content) is) ∙ known in
-    let none : None ≡ payload = cc in
-    rw is (ap (λ (p : Option (List ℕ)). verified_under (under_of checks) p bytes) none)
-
--- What a request has none of isn't asked for.
-pub none_named : (name : List ℕ) (A : Type 0) → None ≡ Some name → A
-none_named name A named = absurd cc
-
-pub none_kept : (under : Under) (A : Type 0) → None ≡ Some under → A
-none_kept under A kept = absurd cc
-
-pub some_named : (name : List ℕ) (A : Type 0) → Some name ≡ None → A
-some_named name A none = absurd cc
-
-pub not_so : (A : Type 0) → false ≡ true → A
-not_so A so = absurd cc

@@ -1,21 +1,18 @@
 -- What the options of `cwt` require, as the code reads them.
-use Rattle.std.proofs.Common.{◌≡◌, ◌∙◌, ℕ, ℤ, List, [], ◌∷◌, ◌++◌, append_assoc, Option, Some, None, Result, Ok, arith, length, nat_lt, refl, ap, subst, sym, option_map, codes}
-use Rattle.std.proofs.lemmas.Grind.{common_steps}
-use Rattle.std.specs.Prelude.{Bool, true, ◌&&◌, is_some, map, not, slice_index, unwrap_or}
+use Rattle.std.proofs.Common.{◌≡◌, ◌∙◌, ℕ, ℤ, List, [], ◌∷◌, ◌++◌, append_assoc, Option, Some, None, Result, Ok, refl, ap, subst, sym, option_map, codes}
+use Rattle.std.specs.Prelude.{Bool, is_some, map, not, unwrap_or}
 use Rattle.std.specs.Borrow.{Bor}
-use Rattle.std.specs.Str.{IsCharBoundary}
 use Rattle.std.specs.Str.Parse.{ParsesUnsigned, digits_value, without_leading_plus}
 use Rattle.clap.specs.Matches.{TriesOne, found_of, one_text, matched_of, raw_values}
 use Rattle.clap.specs.Walk.{Text}
 use Rattle.clap.specs.declared.parser.matches.ArgMatches.{ArgMatches}
 use Rattle.clap.proofs.WalkLemmas.{one_text-rows, raw_values-rows}
 use Rattle.cose_cwt.specs.declared.requirements.Claim.{Claim}
-use Rattle.cosecmd.specs.declared.requirements.Required.{Required}
-use Rattle.cose_cwt.proofs.ClaimNames.{each_claim}
+use Rattle.cose_answers.specs.declared.required.Required.{Required}
 use Rattle.cose_cwt.specs.Claims.Audience.{text_value}
-use Rattle.cose_cwt.specs.Requirements.{name_of}
 use Rattle.cosecmd.specs.Options.{Options, flag_in, number_in, options_of, text_in}
-use Rattle.cosecmd.specs.Requirements.{RequiredFields, and_named, audience_required, claims_named, present_in, requirements_for, requirements_with, texts_in, wants_any_audience, with_audience}
+use Rattle.cosecmd.specs.Requirements.{RequiredFields, and_named, audience_required, claims_named, present_in, requirements_with, texts_in, wants_any_audience, with_audience}
+use Rattle.cose_answers.specs.Requirements.{requirements_for}
 
 -- ---- the claims of `--require`
 
@@ -80,15 +77,3 @@ present_known options wants claims known is =
 pub same_requirements : (now : ℤ) (leeway : ℕ) (options : Options) (required : Required) → RequiredFields options required →
     requirements_for now leeway required ≡ requirements_with now leeway options required.present.items
 same_requirements now leeway options required fields = rw (fields.iss, fields.sub, fields.aud, fields.lifetime, fields.age) refl
-
--- ---- the line of a claim that is absent
-
--- The name of a claim is longer than a letter, and a character begins after its first byte.
-abbrev begins_with_letter : Claim → Bool
-begins_with_letter claim = nat_lt 1 (length (name_of claim)) && nat_lt (slice_index (name_of claim) 1) 128
-
-boundary : (name : Text) → (nat_lt 1 (length name) && nat_lt (slice_index name 1) 128) ≡ true → IsCharBoundary name 1
-boundary name e = grind (arith, common_steps)
-
-pub first_letter : (claim : Claim) (name : Text) → name ≡ name_of claim → IsCharBoundary name 1
-first_letter claim name is = rw is (boundary (name_of claim) (each_claim begins_with_letter refl claim))

@@ -1,14 +1,9 @@
--- What is read of a file: its first bytes, which decide on keys as the whole file does.
-use Rattle.std.proofs.Common.{◌≡◌, ℕ, ◌≤◌, ◌<◌, Bool, true, false, List, [], ◌++◌, take, length, Option, Some, option_map, nat_lt, refl, ap, ◌∙◌, arith, min}
-use Rattle.std.specs.Prelude.{IfSome}
+-- What is read of a file decides on keys as the whole file does.
+use Rattle.std.proofs.Common.{◌≡◌, ℕ, ◌≤◌, ◌<◌, Bool, true, false, List, take, length, nat_lt, refl, ap, ◌∙◌, arith, min}
 use Rattle.std.proofs.lemmas.Bool.{lt-ltb, ltb-false, ltb-true}
 use Rattle.std.proofs.lemmas.List.{length-take, take_all}
-use Rattle.cosecmd.specs.Printed.{ItemsPrint, keys_print}
+use Rattle.cose_answers.specs.Printed.{ItemsPrint, keys_print}
 use Rattle.cose_map.specs.KeySet.{keys_of}
-
-pub first_read : (most : ℕ) (left : Option (List ℕ)) (limit : ℕ) (old new bytes : List ℕ) → left ≡ Some bytes → limit ≡ most → old ≡ [] →
-    IfSome (option_map (take limit) left) (λ more. new ≡ old ++ more) → new ≡ take most bytes
-first_read most left limit old new bytes l m o read = rw (l, m, o) at read
 
 -- Where fewer bytes were read, they are the whole file.
 pub whole_read : (read bytes : List ℕ) → read ≡ take 65536 bytes → length read < 65536 → read ≡ bytes

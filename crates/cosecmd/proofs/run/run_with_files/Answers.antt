@@ -3,12 +3,13 @@ use Rattle.cose_text.specs.TextInput.{reader_of}
 use Rattle.cosecmd.specs.CommandLine.{AsksFor, begins_as_answer}
 use Rattle.cosecmd.specs.InputForm.{input_bytes}
 use Rattle.cosecmd.specs.declared.arguments.Parsed.TheVariants.{Matches, Text}
-use Rattle.cosecmd.proofs.lemmas.Arguments.Asked.{ends_with, fails_with, not_made}
+use Rattle.cosecmd.proofs.lemmas.Arguments.AskedMaking.{not_made}
+use Rattle.cose_answers.proofs.lemmas.Requests.Asked.{ends_with, fails_with}
 use Rattle.cosecmd.proofs.lemmas.Arguments.AskedMaking.{stops_or_fails}
 use Rattle.cosecmd.proofs.lemmas.Arguments.AskedSequences.{found_fails, not_of_sequence}
 use Rattle.cosecmd.proofs.lemmas.Arguments.CommandLines.{found_in, text_read}
 use Rattle.cosecmd.proofs.lemmas.Arguments.KeptRequests.{settles_named}
-use Rattle.cosecmd.proofs.lemmas.Messages.Replies.{asked_where_well, ends_with_text, some_line}
+use Rattle.cose_answers.proofs.lemmas.Messages.Replies.{asked_where_well, ends_with_text, some_line}
 use Rattle.cosecmd.proofs.lemmas.Arguments.TextRequests.{read_of}
 use Rattle.cosecmd.proofs.run.run_with_files.Goals as goal
 

@@ -1,0 +1,14 @@
+pub mod lemmas
+pub mod WorkedAdmitted
+pub mod WorkedAsked
+pub mod WorkedDigests
+pub mod WorkedHeaders
+pub mod WorkedKept
+pub mod WorkedLimits
+pub mod WorkedListed
+pub mod WorkedMade
+pub mod WorkedPayloads
+pub mod WorkedPrinted
+pub mod WorkedRequirements
+pub mod WorkedSequences
+pub mod WorkedShown

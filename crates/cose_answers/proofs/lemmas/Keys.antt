@@ -1,0 +1,3 @@
+pub mod AskedKeys
+pub mod Listings
+pub mod VouchedSignatures

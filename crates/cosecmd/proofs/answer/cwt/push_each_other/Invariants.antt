@@ -1,8 +1,0 @@
--- The lines so far and those of the claims that are left are all lines.
-use Rattle.std.proofs.Common.{◌≡◌, ◌++◌, string_bytes}
-use Rattle.cose_map.specs.Map.View.{pairs_left}
-use Rattle.cosecmd.specs.Admitted.{other_lines}
-use Rattle.cosecmd.proofs.answer.cwt.push_each_other.Given as goal
-
-abbrev pub invariant-claims : goal.invariant-claims
-invariant-claims l = string_bytes l.lines ++ other_lines (pairs_left l.label-iterator) ≡ string_bytes l.fn.lines ++ other_lines (pairs_left l.fn.claims)

@@ -1,6 +1,0 @@
-use Rattle.cosecmd.proofs.lemmas.Keys.KeyFiles.{first_read}
-use Rattle.cosecmd.proofs.answer.keys.asked.front_of.Goals as goal
-
-pub returns-in-Ok-clause-front : goal.returns-in-Ok-clause-front
-returns-in-Ok-clause-front g c = λ bytes e.
-    first_read 131124 _ _ _ _ bytes (rw c.take.ensures.inner e) c.take.ensures.limit c.new-front.ensures.items (rw c.in-Ok.is at c.read_to_end.ensures.bytes)

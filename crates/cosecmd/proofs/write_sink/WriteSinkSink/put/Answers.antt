@@ -1,9 +1,0 @@
-use Rattle.cosecmd.proofs.lemmas.Payloads.WrittenPieces.{more_written}
-use Rattle.cosecmd.proofs.write_sink.WriteSinkSink.put.Goals as goal
-
-pub bytes-preserved : goal.bytes-preserved
-bytes-preserved g c = (
-  more_written _ c.in-Ok.count _ c.bytes.invariant.0 c.in-Ok.ensures.bytes c.split_at.ensures.back,
-  c.bytes.invariant.1,
-  c.bytes.invariant.2,
-)
