@@ -1,5 +1,5 @@
 -- What a request requires of the claims of a token, and the line of a requirement that isn't met.
-use Rattle.std.specs.Prelude.{ℕ, ℤ, List, ◌++◌, Option, option_map, is_some, not, codes, drop, map, take}
+use Rattle.std.specs.Prelude.{ℕ, ℤ, List, ◌++◌, Option, option_map, is_some, codes, drop, map, take}
 use Rattle.std.specs.Fmt.{decimal}
 use Rattle.std.specs.Char.{to_ascii_uppercase}
 use Rattle.cose_cwt.specs.declared.requirements.Claim.{Claim}

@@ -1,5 +1,5 @@
 -- What the options of a command say, and what is printed for a command line, on examples, by computing.
-use Rattle.std.specs.Prelude.{◌≡◌, ℕ, true, false, List, [], ◌∷◌, Option, Some, None, codes, pos, refl}
+use Rattle.std.specs.Prelude.{◌≡◌, ℕ, true, List, [], ◌∷◌, Option, Some, None, codes, pos, refl}
 use Rattle.clap.specs.Walk.{Row, Text}
 use Rattle.clap.specs.declared.builder.value_parser.Reading.TheVariants as readings
 use Rattle.clap.specs.declared.parser.matches.ValueSource.TheVariants.{CommandLine}

@@ -1,5 +1,5 @@
 -- What the options of `cwt` require, on examples, by computing.
-use Rattle.std.specs.Prelude.{◌≡◌, pos, false, List, [], ◌∷◌, Some, None, codes, refl}
+use Rattle.std.specs.Prelude.{◌≡◌, pos, List, [], ◌∷◌, Some, None, codes, refl}
 use Rattle.clap.specs.Walk.{Row, Text}
 use Rattle.cose_cwt.specs.declared.requirements.Claim.TheVariants.{Iss, Sub, Aud, Exp, Nbf, Iat, Cti}
 use Rattle.cosecmd.specs.Requirements.{claims_named, present_in, requirements_in}

@@ -5,7 +5,6 @@ use Rattle.std.proofs.lemmas.Bool.{ltb-false, ltb-true}
 use Rattle.std.proofs.lemmas.List.{drop-append-le, length-drop, length-take, take-append-drop, take_all}
 use Rattle.cose_head.specs.declared.algorithm.Alg.{Alg}
 use Rattle.cose_head.specs.declared.kind.Kind.{Kind}
-use Rattle.cose_head.specs.declared.kind.Kind.TheVariants as kinds
 use Rattle.cose_head.specs.declared.reason.Reason.TheVariants.{UnknownAlg}
 use Rattle.cose_head.specs.declared.refusal.Refusal.{Refusal}
 use Rattle.cose_head.specs.declared.head.HeadStep.{HeadStep}

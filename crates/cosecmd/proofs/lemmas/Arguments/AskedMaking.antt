@@ -4,7 +4,6 @@ use Rattle.cose_answers.specs.Requests.{asked_for, makes}
 use Rattle.cosecmd.specs.CommandLine.{AsksFor}
 use Rattle.cose_answers.specs.MakeStops.{StopsMaking}
 use Rattle.cose_answers.specs.Printed.{Fails, Output}
-use Rattle.cose_answers.specs.declared.request.Make.{Make}
 use Rattle.cose_answers.specs.declared.request.Request.{Request}
 use Rattle.cose_answers.specs.declared.request.Request.TheVariants as asks
 use Rattle.cose_answers.proofs.lemmas.Making.MakeStops.{stops_same}

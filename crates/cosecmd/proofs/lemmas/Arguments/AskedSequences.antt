@@ -8,7 +8,6 @@ use Rattle.cose_answers.proofs.lemmas.Requests.AskedSequences.{fails_as, fails_i
 use Rattle.cose_answers.specs.Printed.{Fails, Output}
 use Rattle.cose_answers.specs.Sequence.{FailsInSequence, verified_sequence}
 use Rattle.cose_answers.specs.Under.{Under, under_of}
-use Rattle.cose_answers.specs.declared.request.Cwt.{Cwt}
 use Rattle.cose_answers.specs.declared.request.Checks.{Checks}
 use Rattle.cose_answers.specs.declared.request.Request.{Request}
 use Rattle.cose_answers.specs.declared.request.Request.TheVariants as asks

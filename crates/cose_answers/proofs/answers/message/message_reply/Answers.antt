@@ -1,4 +1,4 @@
-use Rattle.std.proofs.Common.{List, None, Option, Some, ap, false, sym, true, ℕ, ◌≡◌, ◌∙◌}
+use Rattle.std.proofs.Common.{List, None, Option, Some, ap, false, sym, true, ℕ, ◌∙◌}
 use Rattle.std.proofs.lemmas.Bool.{true≢false}
 use Rattle.cose_answers.specs.Payload.{detached_in, is_in_file}
 use Rattle.cose_answers.specs.Printed.{answered_under}

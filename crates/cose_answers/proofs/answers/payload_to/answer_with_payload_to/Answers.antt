@@ -1,4 +1,4 @@
-use Rattle.std.proofs.Common.{◌≡◌, ◌∙◌, ap, false, inr, refl, true}
+use Rattle.std.proofs.Common.{◌∙◌, ap, false, inr, refl, true}
 use Rattle.std.proofs.lemmas.Bool.{false≢true}
 use Rattle.cose_answers.specs.Printed.{code_of}
 use Rattle.cose_answers.proofs.lemmas.Payloads.KeptPayloads.{file_line, holds_payload, none_made, stands, stands_removed, taken_before}
