@@ -36,7 +36,7 @@ unfoldable printed : List String → String → String → List ℕ
 unfolding diagnostic pairs is_utf8 chars lib.Utf8.encode digits encode_with
 printed labels protected unprotected = parameter_lines (map codes labels) (pairs protected) (pairs unprotected)
 
--- The alg 5 and the content type 60 in the protected bucket, and the kid '11' in the unprotected one. In the order of the arguments.
+-- The alg 5 and the content type 60 in the protected bucket, and the kid '11' in the unprotected one. In the order of the request.
 both_buckets : printed ("4" ∷ "1" ∷ "3" ∷ []) "a2010503183c" "a104423131" ≡ (lines ("unprotected 4: h'3131'" ∷ "protected 1: 5" ∷ "protected 3: 60" ∷ [])).text
 unfolding printed
 both_buckets = refl

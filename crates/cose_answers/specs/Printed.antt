@@ -336,7 +336,7 @@ said_before (questions.Headers labels) rest input taken protected unprotected ve
 abbrev pub fault_of_key : Refusal → Output
 fault_of_key refusal = record { text = codes "fault key " ++ refusal_text refusal ++ codes "\n"; status = statuses.Fault }
 
--- Only a fault of the arguments has a line.
+-- Only a fault of a request has a line.
 abbrev pub making_line : MakeFault → List ℕ
 making_line makes.WrongKey = codes "fault make WrongKey\n"
 making_line makes.TooLong = codes "fault make TooLong\n"

@@ -27,7 +27,7 @@ abbrev pub made_for : Make → List ℕ → Output
 made_for words bytes =
     made_under (key_of (record { bytes = words.key.items; place = 0 })) words.alg words.length (option_map (λ word. word.items) words.kid) words.aad.items bytes
 
--- The detached payload that the arguments of `verify` or `digest` name, as far as it is known. No other command has one.
+-- The detached payload that a request to verify or to digest a message names, as far as it is known. No other request has one.
 abbrev pub payload_for : (List ℕ → Option (List ℕ)) → Request → Option (Option (List ℕ))
 payload_for content (asks.Message question checks payload) = detached_in content payload
 payload_for content (asks.Keep checks name) = Some None

@@ -1,4 +1,4 @@
--- What a message is verified under, as the arguments of the command line say it.
+-- What a message is verified under, as a request says it.
 use Rattle.std.specs.Prelude.{ℕ, List, Option, option_map}
 use Rattle.cose_map.specs.Key.Value.{KeyValue}
 use Rattle.cose_map.specs.KeySet.{keys_of}

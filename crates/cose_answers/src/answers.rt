@@ -49,7 +49,7 @@ fn end_with<W: Write>(alloc: Global, reply: Result<Reply, Fault>, output: &mut W
     print_reply(alloc, reply, output).code()
 }
 
-/// Does what the arguments ask for: it reads the message or the payload from `input`, and writes the lines, or the message that is
+/// Does what the request asks for: it reads the message or the payload from `input`, and writes the lines, or the message that is
 /// made, to `output`.
 ///
 /// After an accepted message, and after an admitted token, it reads once more: a further byte is `Trailing` at the end of the
@@ -70,7 +70,7 @@ pub fn answer<F: NamedFiles, N: NewFiles, R: Read, W: Write>(
     output: &mut W,
 ) -> u8
     ensures status { result ≤ 2 }
-    // Unless there is a fault, it prints the output for these arguments, for the payload that they name, if any, and for
+    // Unless there is a fault, it prints the output for this request, for the payload that it names, if any, and for
     // all that the reader gives, and ends with its status.
     ensures printed { (bytes : List ℕ) (payload : Option (List ℕ))
         → R.remaining input.old ≡ Some bytes →
@@ -90,7 +90,7 @@ pub fn answer<F: NamedFiles, N: NewFiles, R: Read, W: Write>(
         makes request.entry.now ≡ true → result ≡ 2 →
         StopsMaking (asked_for request.entry.now None) bytes (W.contents output.old)
         (W.contents output.new) }
-    // What becomes of the new file that the arguments name; where they name none, none is made.
+    // What becomes of the new file that the request names; where it names none, none is made.
     ensures settled { (name : List ℕ) → new_file_for request.entry.now ≡ Some name →
         Settles name (N.made new_files.old) (N.made new_files.new) result }
     ensures unnamed { new_file_for request.entry.now ≡ None → new_files.new ≡ new_files.old }

@@ -1,4 +1,4 @@
-//! What the arguments of the command line ask for.
+//! What the program is asked for.
 
 ghost use Rattle.std.specs.Prelude.{◌≤◌, length as length_of};
 
@@ -116,7 +116,7 @@ pub enum Payload<'w> {
     },
 }
 
-/// What the arguments ask for.
+/// What the program is asked for.
 #[derive(Drop)]
 pub enum Request<'w> {
     /// To show a message of these kinds.

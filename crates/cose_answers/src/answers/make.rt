@@ -77,7 +77,7 @@ fn make_message<R: Read, W: Write>(
     }
 }
 
-/// Makes a message of the payload on the input, and writes it, or the line of the fault of its arguments.
+/// Makes a message of the payload on the input, and writes it, or the line of the fault of the request.
 pub fn answer_make<R: Read, W: Write>(
     alloc: Global,
     words: &Make,

@@ -368,7 +368,7 @@ fn reply_from_file<F: NamedFiles, I: Intake>(
     message_reply_with_file(alloc, question, checks, length, &mut file, intake)
 }
 
-/// The reply to what is asked of the message on the input, whose payload is where the arguments say.
+/// The reply to what is asked of the message on the input, whose payload is where the request says.
 pub fn message_reply<F: NamedFiles, R: Read>(
     alloc: Global,
     files: &F,
