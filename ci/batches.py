@@ -7,8 +7,9 @@ in no type is one of the functions whose bodies name it.
 
 A function that an edit changes is tried as a copy beside it, under the same contract and with the same answers: what calls the
 function stands as it is, and hasn't to be proved again. A number that is changed stands in the copies in place of its name. A
-function is changed where it stands if another constant is, or if its name is given: a method of a trait, and functions that call
-each other. Batches of copies are tried in one check, where each copy is a function of its own.
+function is changed where it stands if another constant is, if its parameters are, which its callers follow, or if its name is given: a
+method of a trait, and functions that call each other. Batches of copies are tried in one check, where each copy is a function of its
+own.
 """
 import dataclasses
 import itertools
@@ -183,6 +184,11 @@ def is_in_body(text, place):
     return any(re.search(r"^ *\{$|^ *(?!ensures|requires)\S.* \{$", line) for line in lines[number:-1])
 
 
+def is_first_line(text, place):
+    """Whether the line of this place is a function's first one, which has its parameters."""
+    return bool(FUNCTION.match(text[text.rfind("\n", 0, place) + 1 :]))
+
+
 def constant_at(text, place):
     """The name of the constant whose declaration is around this place, or None."""
     return next((it[1] for it in CONSTANT.finditer(text) if it.start() <= place < it.end()), None)
@@ -229,13 +235,14 @@ class Batch:
 
     def take(self, edit, changes):
         """Adds an edit, and says whether it could be: each text is there once, in a function that no other edit changes."""
-        texts, places, constants = {}, {}, {}
+        texts, places, constants, is_called_otherwise = {}, {}, {}, False
         for file, old, new in changes:
             text = texts.get(file) or self.text(file)
             if not file.startswith("src/") or text.count(old) != 1:
                 return False
             place = text.index(old)
             function, constant = function_at(file, text, place, self.types), constant_at(text, place)
+            is_called_otherwise = is_called_otherwise or is_first_line(text, place)
             texts[file] = text.replace(old, new)
             if function is None and constant:
                 constants[constant] = number_of(texts[file], constant)
@@ -249,7 +256,7 @@ class Batch:
             places.update(changed)
         if not places:
             return False
-        copies = self.copies_of(places, texts, constants)
+        copies = [] if is_called_otherwise else self.copies_of(places, texts, constants)
         if self.functions and bool(copies) != bool(self.copies):
             return False
         for file, copy in copies:

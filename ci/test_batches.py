@@ -206,6 +206,10 @@ class Batches(unittest.TestCase):
         self.assertTrue(batch.take("one", edit("7", "8", "src/a.rt")))
         self.assertEqual(batch.sources(), {"src/a.rt": text.replace("7", "8")})
 
+    def test_a_function_of_other_parameters_is_changed_where_it_stands(self):
+        batch = self.batch(one=[Change("src/a/b.rt", "first(a: u8)", "first(a: u8, b: u8)"), Change("src/a/b.rt", "a + 0", "a + b")])
+        self.assertEqual(batch.sources(), {"src/a/b.rt": SOURCE.replace("first(a: u8)", "first(a: u8, b: u8)").replace("a + 0", "a + b")})
+
     def test_another_function_is_copied(self):
         batch = self.batch(one=edit("self.a + 5", "self.a + 9"), two=edit("a + 0", "a + 9"))
         first, put = SOURCE[SOURCE.index("pub fn first"):SOURCE.index("\nimpl<const")], SOURCE[SOURCE.index("    /// Puts."):]
@@ -229,9 +233,9 @@ class Batches(unittest.TestCase):
         self.assertEqual(copied.refused(goals), {"0": [], "2": [("a::b::first", "returns")], "4": []})
 
     def test_an_edit_of_two_lines_has_one_copy(self):
-        batch = self.batch(one=[*edit("-> u8\n    ensures", "-> u9\n    ensures"), *edit("a + 0", "a + 9")])
+        batch = self.batch(one=[*edit("result ≡ a", "result ≡ b"), *edit("a + 0", "a + 9")])
         (_, lines), = batch.copies["src/a/b.rt"]
-        self.assertEqual(lines, ["pub fn first_edited_0(a: u8) -> u9", "    ensures { result ≡ a }", "{", "    a + 9", "}"])
+        self.assertEqual(lines, ["pub fn first_edited_0(a: u8) -> u8", "    ensures { result ≡ b }", "{", "    a + 9", "}"])
 
     def test_a_copy_has_the_answers_of_its_function(self):
         answers = "use Rattle.c.proofs.a.b.Writer.put.Goals as goal\nuse Rattle.c.proofs.a.b.Writer.put_all.Goals as other\n"
