@@ -8,6 +8,7 @@ import contextlib
 import functools
 import hashlib
 import itertools
+import json
 import os
 import pathlib
 import re
@@ -52,6 +53,28 @@ CLAIMS = {1: "coap://as.example.com", 2: "erikw", 3: "coap://light.example.com",
 ADMITTED = ("admitted\niss 636f61703a2f2f61732e6578616d706c652e636f6d\nsub 6572696b77\n"
             "aud 636f61703a2f2f6c696768742e6578616d706c652e636f6d\nexp 1444064944\nnbf 1443944944\niat 1443944944\n"
             "cti 0b71")
+
+
+class Row(NamedTuple):
+    """A row of rows/commands.json: a run in a folder with these files, what it prints, and its status."""
+    arguments: list
+    given: bytes
+    files: dict
+    text: bytes
+    status: int
+
+    def options(self):
+        return {word.split("=")[0] for word in self.arguments if word.startswith("--")}
+
+
+@functools.lru_cache(maxsize=None)
+def command_rows():
+    groups = json.loads((TOP / "rows" / "commands.json").read_text())["testGroups"]
+    tests = [(test, test["result"]) for group in groups for test in group["tests"]]
+    return [Row(test["arguments"], bytes.fromhex(test["input"]),
+                {name: bytes.fromhex(content) for name, content in test.get("files", {}).items()},
+                bytes.fromhex(result["output"]) if result["verdict"] == "bytes" else result["output"].encode(),
+                result["status"]) for test, result in tests]
 
 
 class Message(NamedTuple):

@@ -1,5 +1,6 @@
-"""The command line: help, a token, files of keys and of payloads, sequences, small stacks, the script at the top."""
+"""The command line: the examples of the help, files of payloads, sequences, small stacks, the script at the top."""
 import os
+import pathlib
 import re
 import resource
 import shutil
@@ -11,36 +12,22 @@ from support import (AUTHENTIC, KEY, KEYS, MESSAGE, PROGRAM, SIGNED, SIGNED_KEY,
 
 VERIFY, UNDER_KEY, MAKE = f"verify {KEYS}", "verify --keys-file key", "make --alg 5 --key-file key --length"
 WITH_FILE, APART = f"{VERIFY} --payload-file", mac0(b"hi", is_detached=True)
-HI, OTHER, NO_FILE = APART.authentic(), APART.bad_auth(), "fault file payload-file"
-NO_SET = "fault keys BadKeySet at 0"
+HI, NO_FILE = APART.authentic(), "fault file payload-file"
 TOKEN, ADMITTED = mac0(cbor({2: "erikw", 4: 1444064944})), "admitted\nsub 6572696b77\nexp 1444064944"
 VERSION = re.search(r"^## ([0-9.]*)", (TOP / "CHANGELOG.md").read_text(), re.M)[1]
-STATUS = b"Exit status: 0 accepted, shown, printed or made, 1 refused, 2 no answer"
 STACKS = re.search(r"^\| the stack \| `ulimit -s (\d+)` \| `ulimit -s (\d+)` \|$",
                    (TOP / "docs" / "COMMANDS.md").read_text(), re.M)
 
 
 class CommandLine(Case):
-    files = {"key": KEY, "keys": KEY, "message": MESSAGE, "longest": bytes(65535), "payload": b"\xa1\x06\x00",
+    files = {"key": KEY, "keys": KEY, "message": MESSAGE, "payload": b"\xa1\x06\x00",
              "token": mac0(b"\xa1\x06\x00").encoded()}
     runs = {
         "the version is that of the changes": [("--version", b"", f"cosecmd {VERSION}")],
-        "help": [("--help", b"", re.compile(b"(?s).*no prefix and no spaces.*" + STATUS + b".*"))],
         "an argument that is not UTF-8": [
             (["verify", "--keys", b"\xff"], b"", "error: invalid UTF-8 was detected in one or more arguments", 2)],
-        "a message is made under a key in a file": [(f"{MAKE} 2", b"hi", MESSAGE)],
-        "a token is made": [(f"{MAKE} 14", TOKEN.payload, TOKEN.encoded())],
-        "a token is admitted until it expires": [
-            (f"cwt {KEYS} --now 1444064943", TOKEN, ADMITTED),
-            (f"cwt {KEYS} --now 1444064944", TOKEN, "refused claims Expired at 9")],
-        "files of keys": [
-            (UNDER_KEY, MESSAGE, AUTHENTIC),
-            (("verify --keys-file missing", "digest --keys-file .", "cwt --now 0 --keys-file ''"), MESSAGE,
-             "fault file keys-file"),
-            ("verify --keys-file /dev/zero", MESSAGE, NO_SET),
-            ("verify --keys-file longest", MESSAGE, "fault keys Trailing at 1"),
-            (("make --alg 5 --length 0 --key-file missing", "make --alg 5 --length 0 --key-file /dev/zero"), MESSAGE,
-             "fault file key-file")],
+        "a list of keys reads no input": [
+            ("keys --keys-file key", pathlib.Path("/"), "key at 0 kty 4 usable\nusable 1 of 1")],
     }
 
     def test_the_example_in_the_help_of_each_command_succeeds(self):
@@ -54,39 +41,13 @@ class CommandLine(Case):
             example = re.search(rf"^Example: (cosecmd {command} .*)$", text, re.M)[1]
             self.expect([example], b"", None, 0, command=["sh", "-c"], env=environment)
 
-    def test_a_list_of_keys(self):
-        """It reads no input: the descriptor is one that can't be read."""
-        several, many = "a5010402423131030504820a0920420001a10102a4010403610a048161612041000a", 16 * "a20104204100"
-        listed = ("key at 1 kty 4 kid 3131 alg 5 ops 9,10 usable\nkey at 18 refused BadValue at 18\n"
-                  'key at 21 kty 4 alg "\\u000a" ops usable\nkey at 34 refused NotMap at 34\nusable 2 of 4')
-        with open(self.folder / "unread", "wb") as unread:
-            self.try_each([
-                ("keys --keys-file key", unread, "key at 0 kty 4 usable\nusable 1 of 1"),
-                (f"keys --keys 84{several}", unread, listed),
-                (f"keys --keys 90{many}", unread, re.compile(rb"(?s).*\nusable 16 of 16\n")),
-                (f"keys --keys 92a0a20104204100{many}", unread,
-                 re.compile(rb"(?s).*\nusable 17 of 18 refused BadKeySet at 0\n"), 1),
-                (("keys --keys 80", "keys --keys-file /dev/zero"), unread, NO_SET),
-                ("keys --keys 81a101", unread, "fault keys PastRoom at 1"),
-            ])
-
 
 class Payloads(Case):
     """Files of the payload of a message that has nil in its place."""
-    files = {"key": KEY, "payload": b"hi", "other": b"ho", "longer": b"hi, there", "empty": b""}
+    files = {"key": KEY}
     runs = {
-        "a file whose length is its own": [
-            (f"{WITH_FILE} payload", APART, HI),
-            ((f"{WITH_FILE} other", f"{WITH_FILE} empty"), APART, OTHER),
-            (tuple(f"{WITH_FILE} {path}" for path in ("missing", ".", "/dev/zero", "unwritten")), APART, NO_FILE)],
-        "as many bytes as are stated are the payload of any file": [
-            (f"{WITH_FILE} {path} --payload-length {length}", APART, text) for path, length, text in (
-                ("payload", 2, HI), ("longer", 2, HI), ("payload", 3, NO_FILE), ("missing", 2, NO_FILE),
-                ("payload", 1, OTHER), ("payload", 0, OTHER), ("/dev/zero", 2, OTHER))],
-        "what comes before the file": [
-            (f"{WITH_FILE} payload", MESSAGE, "refused Attached at 7"),
-            ("verify --keys 80 --payload-file missing", MESSAGE, NO_FILE),
-            # a stream that is closed is none of the files that are opened
+        "a pipe isn't opened where its length isn't stated": [(f"{WITH_FILE} unwritten", APART, NO_FILE)],
+        "a stream that is closed is none of the files that are opened": [
             (f"{UNDER_KEY} --payload-file key", b"", "fault input", {"closed": [0]})],
     }
 
@@ -123,13 +84,7 @@ class Payloads(Case):
 
 class Sequences(Case):
     files = {"key": KEY}
-    runs = {
-        "options of the payload exclude a sequence": [
-            (f"{UNDER_KEY} --sequence --{option}", MESSAGE, re.compile(rb"(?s).*--sequence.*cannot be used with.*"), 2)
-            for option in ("payload 6869", "payload-file p", "payload-file p --payload-length 2", "payload-length 2",
-                           "payload-to p")],
-        "the keys come first": [("verify --keys 80 --sequence", MESSAGE, NO_SET)],
-    }
+    runs = {"the keys come first": [("verify --keys 80 --sequence", MESSAGE, "fault keys BadKeySet at 0")]}
 
     def test_what_is_said_of_a_message_is_said_of_it_in_a_sequence(self):
         one, changed = (MESSAGE, AUTHENTIC), (flipped(MESSAGE, -1), "refused BadAuth at 10")

@@ -4,13 +4,13 @@ Each message is changed in several ways too, and then has to be refused. Images 
 proof, which is slow) are signed on each curve as detached payloads. Every option that the program's help lists is
 tried, with a message that it decides on.
 """
-import json
 import os
 import re
 import shlex
 
-from support import (AUTHENTIC, CURVES, KEYS, MESSAGE, SIGN1, SIGNED, TOP, UNPROVED, Case, Message, cbor, flipped,
-                     folder_of, in_sequence, keys, mac0, needs, new_pair, printed, public, sign1, status_of)
+from support import (AUTHENTIC, CURVES, KEYS, MESSAGE, SIGN1, SIGNED, TOP, UNPROVED, Case, Message, cbor,
+                     command_rows, flipped, folder_of, in_sequence, keys, mac0, needs, new_pair, printed, public,
+                     sign1, status_of)
 
 PAYLOAD, DATA = b"a payload", b"external data"
 IMAGE = b"\x5a" * (50_000 if UNPROVED else 5_000_000)
@@ -190,12 +190,9 @@ class Messages(Pairs):
 def rows_with(command, option):
     """The rows of the program that run a command with an option, and no file or --vouch: the options, the input, and what
     is printed."""
-    groups = json.loads((TOP / "rows" / "commands.json").read_text())["testGroups"]
-    tests = [test for group in groups for test in group["tests"]]
-    runs = [test for test in tests if test["arguments"][:1] == [command] and not test.get("files")]
-    named = [(test, {word.split("=")[0] for word in test["arguments"]}) for test in runs]
-    return [(shlex.join(test["arguments"][1:]), bytes.fromhex(test["input"]), test["result"]["output"][:-1])
-            for test, names in named if f"--{option}" in names and "--vouch" not in names]
+    return [(shlex.join(row.arguments[1:]), row.given, row.text.decode()[:-1]) for row in command_rows()
+            if row.arguments[:1] == [command] and f"--{option}" in row.options() - {"--vouch"} and not row.files
+            and "--vouch" not in row.options()]
 
 
 class Tokens(Pairs):
