@@ -1,8 +1,8 @@
 """Each request for memory of a run is refused in turn: each such run prints `fault memory` alone and ends with 2.
 
 In a sequence it may follow the lines of messages. One request for the parts of a list is for more than they need, and where it is
-refused less is asked for: that run goes on. The runs are rows of rows/commands.json: of each option of each command the one with
-most arguments that is accepted, and the one that isn't.
+refused less is asked for: that run goes on. The runs are rows of rows/commands.json: of each option of each command, and of each
+kind of line that it prints, the one with most arguments that is accepted, and the one that isn't.
 """
 import pathlib
 import tempfile
@@ -16,8 +16,9 @@ def rows_to_try():
     # (what clap says of a command line is no answer of a command, and runs of hundreds of arguments have as many requests)
     rows = [row for row in command_rows() if not row.text.startswith(b"error: ") and len(row.arguments) < 20]
     for row in sorted(rows, key=lambda row: -len(row.arguments)):
-        for option in row.options():
-            found.setdefault((row.arguments[0], option, row.status == 0), row)
+        kinds = {line.split()[0] for line in row.text.splitlines() if row.text.isascii()}
+        for part in row.options() | kinds:
+            found.setdefault((row.arguments[0], part, row.status == 0), row)
     return {id(row): row for row in found.values()}.values()
 
 
