@@ -3,8 +3,7 @@ use Rattle.std.specs.Prelude.{ℕ, ℤ, List, Option, None, option_map}
 use Rattle.cose_map.specs.Restrictions.{RestrictionsValue}
 use Rattle.cose_answers.specs.declared.allowed.Allowed.{Allowed}
 
--- ---- both options
-
+-- Restrictions by the fewest bytes of a secret, and by the algorithms, where there is a list of them.
 abbrev pub restricted : ℕ → Option (List ℤ) → RestrictionsValue
 restricted least_secret algorithms = record { algorithms = algorithms; least_secret = least_secret }
 

@@ -6,8 +6,6 @@ use Rattle.cose_map.specs.Map.Pairs.{Pair}
 use Rattle.cose_text.specs.Diagnostic.{diagnostic_of}
 use Rattle.cose_answers.specs.Readable.{label_text}
 
--- ---- parameters
-
 -- The value of the parameter whose label has this notation.
 abbrev pub is_labelled : List ℕ → Pair → Bool
 is_labelled label pair = bytes_eq label (label_text pair.name)

@@ -7,8 +7,6 @@ use Rattle.cose_text.specs.Quoted.{quoted}
 use Rattle.cosecmd.specs.Options.{Options}
 use Rattle.cosecmd.specs.Requirements.{texts_in}
 
--- ---- labels
-
 -- A plus (43), a minus (45) or a digit (48 to 57) comes first.
 abbrev pub begins_as_number : Text → Bool
 begins_as_number [] = false

@@ -9,8 +9,6 @@ use Rattle.cose_answers.specs.Requirements.{required_at}
 use Rattle.cose_answers.specs.declared.required.Required.{Required}
 use Rattle.cosecmd.specs.Options.{Options, flag_in, number_in, text_in}
 
--- ---- the options
-
 -- The claims of all these names, unless one of them is the name of no claim.
 abbrev pub and_named : Option Claim → Option (List Claim) → Option (List Claim)
 and_named claim claims = option_and_then (λ first. option_map (λ others. first ∷ others) claims) claim
