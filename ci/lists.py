@@ -222,7 +222,7 @@ PLACES = {
             "key-file keys-file payload-file payload-to input limits",
         ),
         Places("option of digest", of_option, "examples/verify_sign1"),
-        Places("option in hexadecimal", of_option, "crates/cose_hints/src/argument_advice.rt tests/test_standard_error.py"),
+        Places("option in hexadecimal", of_option, "crates/cose_hints/src/argument_advice.rt"),
     ],
     "export": [
         Places("export", of_name, "include/cose.h bindings/rust/src/raw.rs"),

@@ -394,8 +394,8 @@ def commands(_reading, program, _group, test):
         return test["result"]
     answer = program.answer_to_text(arguments[0], options, bytes.fromhex(test["input"]))
     is_text = test["result"]["verdict"] == "lines"
-    found = {"verdict": test["result"]["verdict"], "output": answer.text.decode() if is_text else answer.text.hex(), "status": answer.status}
-    return {**found, "read": test["result"]["read"]} if "read" in test["result"] else found
+    # (what is read, said on standard error and left in files it doesn't know)
+    return {**test["result"], "output": answer.text.decode() if is_text else answer.text.hex(), "status": answer.status}
 
 
 def result_of(reading, program, subject, group, test):
