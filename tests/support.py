@@ -56,12 +56,14 @@ ADMITTED = ("admitted\niss 636f61703a2f2f61732e6578616d706c652e636f6d\nsub 65726
 
 
 class Row(NamedTuple):
-    """A row of rows/commands.json: a run in a folder with these files, what it prints, and its status."""
+    """A row of rows/commands.json: a run in a folder with these files, what it prints, its status and new files."""
+    source: str
     arguments: list
     given: bytes
     files: dict
     text: bytes
     status: int
+    left: dict
 
     def options(self):
         return {word.split("=")[0] for word in self.arguments if word.startswith("--")}
@@ -69,12 +71,14 @@ class Row(NamedTuple):
 
 @functools.lru_cache(maxsize=None)
 def command_rows():
+    def row(source, test, result):
+        text = bytes.fromhex(result["output"]) if result["verdict"] == "bytes" else result["output"].encode()
+        files, left = ({name: bytes.fromhex(content) for name, content in it.items()}
+                       for it in (test.get("files", {}), result.get("left", {})))
+        return Row(source, test["arguments"], bytes.fromhex(test["input"]), files, text, result["status"], left)
+
     groups = json.loads((TOP / "rows" / "commands.json").read_text())["testGroups"]
-    tests = [(test, test["result"]) for group in groups for test in group["tests"]]
-    return [Row(test["arguments"], bytes.fromhex(test["input"]),
-                {name: bytes.fromhex(content) for name, content in test.get("files", {}).items()},
-                bytes.fromhex(result["output"]) if result["verdict"] == "bytes" else result["output"].encode(),
-                result["status"]) for test, result in tests]
+    return [row(group["source"], test, test["result"]) for group in groups for test in group["tests"]]
 
 
 class Message(NamedTuple):

@@ -2,7 +2,7 @@
 
 Each message is changed in several ways too, and then has to be refused. Images of 5 MB (50 KB for the program without a
 proof, which is slow) are signed on each curve as detached payloads. Every option that the program's help lists is
-tried, with a message that it decides on.
+tried, by the rows of rows/commands.json that openssl signed.
 """
 import os
 import re
@@ -187,14 +187,6 @@ class Messages(Pairs):
                 self.verify(public(pair), given, text, options)
 
 
-def rows_with(command, option):
-    """The rows of the program that run a command with an option, and no file or --vouch: the options, the input, and what
-    is printed."""
-    return [(shlex.join(row.arguments[1:]), row.given, row.text.decode()[:-1]) for row in command_rows()
-            if row.arguments[:1] == [command] and f"--{option}" in row.options() - {"--vouch"} and not row.files
-            and "--vouch" not in row.options()]
-
-
 class Tokens(Pairs):
     """CWTs (RFC 8392) that are signed."""
 
@@ -210,11 +202,6 @@ class Tokens(Pairs):
                 (content + b"\0", f"refused message Trailing at {len(content)}", NOW),
             ]:
                 self.verify(key, given, text, now, "cwt")
-
-    def test_what_a_token_has_to_say(self):
-        for _, pair in self.pairs:
-            for options, given, text in of_claims(pair):
-                self.verify(public(pair), given, text, options, "cwt")
 
 
 class Sequences(Pairs):
@@ -247,118 +234,35 @@ class Sequences(Pairs):
             self.verify(public(pair), *cases, f"{LATER} --sequence", "cwt")
 
 
-def of_claims(pair):
-    """Of the options that `cwt` alone has, options with a token and what is printed of it: of each one that is admitted
-    with it, and one that isn't."""
-    claims = {1: "issuer", 2: "erikw", 3: "reader", 4: 2000, 5: 500, 6: 1000, 7: b"\x01"}
-    token, few, other = (signed(pair, cbor(it), tags=CWT) for it in (claims, {4: 2000}, {4: 2000, "scope": "a\n"}))
-    admitted = "admitted\niss 697373756572\nsub 6572696b77\naud 726561646572\nexp 2000\nnbf 500\niat 1000\ncti 01"
-    dated = ('admitted\niss 697373756572 "issuer"\nsub 6572696b77 "erikw"\naud 726561646572 "reader"\n'
-             'exp 2000 1970-01-01T00:33:20Z\nnbf 500 1970-01-01T00:08:20Z\niat 1000 1970-01-01T00:16:40Z\ncti 01')
-
-    def refused(reason, label):
-        """The refusal that has the place of a claim's value in the payload."""
-        return f"refused {reason} at {len(cbor({it: claims[it] for it in claims if it < label})) + len(cbor(label))}"
-
-    several = {
-        admitted: ["", "--now 1999", "--leeway 1 --now 2000", "--aud reader", "--require-aud",
-                   "--aud=reader --require-aud", "--iss issuer", "--sub erikw", "--require iat", "--require cti",
-                   "--max-lifetime 1000", "--max-age 500", "--max-age 495 --leeway 5", "--claims all"],
-        dated: ["--text"],
-        refused("claims Expired", 4): ["--now 2000", "--leeway 0 --now 2000"],
-        refused("claims WrongAudience", 3): ["--aud writer", "--require-aud --aud=readers"],
-        refused("policy Issuer", 1): ["--iss issue"],
-        refused("policy Subject", 2): ["--sub erik"],
-        refused("policy Lifetime", 4): ["--max-lifetime 999"],
-        refused("policy Age", 6): ["--max-age 499", "--leeway 5 --max-age 494"],
-    }
-    cases = [(options, token, text) for text, of_text in several.items() for options in of_text] + [
-        ("--require-aud", few, "refused policy PresentAud at 0"),
-        ("--require=cti", few, "refused policy PresentCti at 0"),
-        ("--claims=all", other, 'admitted\nexp 2000\nclaim "scope": "a\\u000a"'),
-        ("", other, "admitted\nexp 2000"),
-    ]
-    return [(options if "--now" in options else f"{options} --now 1500", *rest) for options, *rest in cases]
+def rows_with(command, option):
+    """The rows of a command with an option whose signatures openssl made; where there are none, those that have no files
+    and no --vouch."""
+    rows = [row for row in command_rows() if row.arguments[:1] == [command] and f"--{option}" in row.options()]
+    return [row for row in rows if "signatures by openssl" in row.source] or [
+        row for row in rows if not row.files and "--vouch" not in row.options()]
 
 
-class Options(Pairs):
-    """Of each option that a command's help lists, and no other, a message that is accepted and one that isn't."""
-    curves = CURVES[:1]
+class Options(Script):
+    """Rows of the program, which the script answers alike without --vouch."""
 
-    def of_both(self, payload, accepted, refused):
-        """Of the options of `verify` and `cwt`, which accept a message by some lines and refuse it in some words, each
-        with others, the input and what is printed."""
-        pair, other = self.pairs[0]
-        alg, message, data, mac = pair.curve.alg, signed(pair, payload), signed(pair, payload, data=DATA), mac0(payload)
-        key, named, wrong = keys(public(pair)), keys(public(pair, alg=alg)), keys(public(other))
-        good, bad, text = accepted(message), message.bad_auth(refused), message.encoded().hex().encode()
-        untagged, large = signed(pair, payload, tags=b""), signed(pair, payload, headers={3: 2000 * "t"})
-        # 17 usable keys, one too many, unless the option leaves 16 out
-        elsewhere = [{1: 2, 3: -35, -1: 2, -2: bytes(48), -3: True}] * 16
-        few_algs, few_secrets = keys(public(pair, alg=alg), *elsewhere), keys(public(pair), *[{1: 4, -1: b"s"}] * 16)
-        self.put("key", bytes.fromhex(key.split()[1]))
-        self.put("wrong", bytes.fromhex(wrong.split()[1]))
-        return [
-            (key, message, good), (wrong, message, bad),
-            ("--keys-file key", message, good), ("--keys-file wrong", message, bad),
-            (f"--algs={alg} {named}", message, good), (f"--algs={alg} {few_algs}", message, good),
-            (f"--algs=5 {named}", message, f"{refused} NoKey at {place_of_key(message)}"),
-            (f"--least-secret 4 {KEYS}", mac, accepted(mac)), (f"--least-secret 2 {few_secrets}", message, good),
-            (f"--least-secret 5 {KEYS}", mac, f"{refused} NoKey at 7"),
-            (f"--aad {DATA.hex()} {key}", data, accepted(data)), (f"--aad 00 {key}", data, data.bad_auth(refused)),
-            (f"--kind sign1 {key}", untagged, accepted(untagged)),
-            (f"--kind tagged {key}", untagged, f"{refused} WrongTag at 0"),
-            (f"--sequence {key}", message, f"at 0\n{good}"), (f"--sequence {wrong}", message, f"at 0\n{bad}"),
-            (f"--input hex {key}", text, good), (f"--input=hex {wrong}", text, bad),
-            (f"--limits large {key}", large, accepted(large)),
-            (f"--limits small {key}", large, f"{refused} PastRoom at 2"),
-        ]
+    def try_row(self, row):
+        folder = folder_of(type(self))
+        for name, content in row.files.items():
+            (folder / name).write_bytes(content)
+        options = re.sub(" --vouch [0-9a-f]+", "", shlex.join(row.arguments[1:]))
+        self.verify(options, row.given, row.text.decode()[:-1], command=row.arguments[0], cwd=folder)
+        with self.subTest(options=options):
+            self.assertEqual({path.name: path.read_bytes() for path in folder.iterdir()}, {**row.files, **row.left})
 
-    def of_verify(self):
-        """The same of the options that `verify` alone has: of payloads, and of header parameters."""
-        pair, other = self.pairs[0]
-        whole, apart, key, wrong = signed(pair), signed(pair, is_detached=True), keys(public(pair)), keys(public(other))
-        good, bad = apart.authentic(), apart.bad_auth()
-        self.put("only", PAYLOAD)
-        self.put("more", PAYLOAD + b" and more")
-        return [
-            (f"--payload {PAYLOAD.hex()} {key}", apart, good), (f"--payload {DATA.hex()} {key}", apart, bad),
-            (f"--payload-file only {key}", apart, good), (f"--payload-file more {key}", apart, bad),
-            (f"--payload-length {len(PAYLOAD)} --payload-file more {key}", apart, good),
-            (f"--payload-length {len(PAYLOAD) - 1} --payload-file more {key}", apart, bad),
-            (f"--payload-to new {key}", whole, whole.authentic()),
-            (f"--payload-to new {key}", whole, "fault file payload-to"),
-            (f"--header 1 --header=4 {key}", whole, f"{whole.authentic()}\nprotected 1: {pair.curve.alg}\nabsent 4"),
-            (f"--header 1 --header=4 {wrong}", whole, whole.bad_auth()),
-        ]
-
-    def try_options(self, command, cases):
-        """Each option that the help lists is the first one of cases, or has those of rows/commands.json."""
-        text = self.program(f"{command} --help").text.decode()
-        # Examples and Messages try these two
-        listed = set(re.findall(r"^ +(?:-h, )?--([a-z-]+)", text, re.M)) - {"help", "vouch"}
-        tried = {re.search("--([a-z-]+)", options)[1] for options, _, _ in cases}
-        self.assertEqual(tried - listed, set())
-        for option in sorted(listed - tried):
-            rows = rows_with(command, option)
-            statuses = {status_of(printed(text)) for _, _, text in rows}
-            self.assertEqual(statuses - {2}, {0, 1}, f"rows/commands.json, --{option}")
-            cases = [*cases, *rows]
-        for options, given, text in cases:
-            self.verify(options, given, text, command=command)
-
-    def test_options_of_verify(self):
-        self.try_options("verify", self.of_both(PAYLOAD, Message.authentic, "refused") + self.of_verify())
-        self.assertEqual((self.folder / "new").read_bytes(), PAYLOAD)
-
-    def test_options_of_cwt(self):
-        key = keys(public(self.pairs[0][0]))
-        cases = self.of_both(cbor({2: "erikw"}), lambda message: "admitted\nsub 6572696b77", "refused message")
-        of_claims_alone = [(f"{options} {key}", *rest) for options, *rest in of_claims(self.pairs[0][0])]
-        self.try_options("cwt", [(f"{options} --now 0", *rest) for options, *rest in cases] + of_claims_alone)
-
-    def test_the_payload_of_a_refused_message_is_kept_nowhere(self):
-        pair, other = self.pairs[0]
-        message = signed(pair)
-        self.verify(public(other), message, message.bad_auth(), "--payload-to left")
-        self.assertFalse((self.folder / "left").exists())
+    def test_each_option_that_help_lists(self):
+        """Of each, and of no other, a message is accepted and one isn't."""
+        for command in "verify", "cwt":
+            text = self.program(f"{command} --help").text.decode()
+            # Examples and Messages try these two
+            listed = set(re.findall(r"^ +(?:-h, )?--([a-z-]+)", text, re.M)) - {"help", "vouch"}
+            rows = {option: rows_with(command, option) for option in sorted(listed)}
+            for option, of_option in rows.items():
+                self.assertEqual({row.status for row in of_option} - {2}, {0, 1}, f"rows/commands.json, --{option}")
+            for row in {id(row): row for of_option in rows.values() for row in of_option}.values():
+                self.assertEqual({option[2:] for option in row.options()} - {"vouch"} - listed, set())
+                self.try_row(row)
