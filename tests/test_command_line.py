@@ -7,13 +7,12 @@ import shutil
 import subprocess
 import unittest
 
-from support import (AUTHENTIC, KEY, KEYS, MESSAGE, PROGRAM, SIGNED, SIGNED_KEY, TOP, UNPROVED, Case, cbor, flipped,
-                     in_sequence, mac0)
+from support import (AUTHENTIC, KEY, KEYS, MESSAGE, PROGRAM, SIGNED, SIGNED_KEY, TOP, UNPROVED, Case, cbor, mac0)
 
 VERIFY, UNDER_KEY, MAKE = f"verify {KEYS}", "verify --keys-file key", "make --alg 5 --key-file key --length"
 WITH_FILE, APART = f"{VERIFY} --payload-file", mac0(b"hi", is_detached=True)
 HI, NO_FILE = APART.authentic(), "fault file payload-file"
-TOKEN, ADMITTED = mac0(cbor({2: "erikw", 4: 1444064944})), "admitted\nsub 6572696b77\nexp 1444064944"
+TOKEN = mac0(cbor({2: "erikw", 4: 1444064944}))
 VERSION = re.search(r"^## ([0-9.]*)", (TOP / "CHANGELOG.md").read_text(), re.M)[1]
 STACKS = re.search(r"^\| the stack \| `ulimit -s (\d+)` \| `ulimit -s (\d+)` \|$",
                    (TOP / "docs" / "COMMANDS.md").read_text(), re.M)
@@ -84,22 +83,6 @@ class Payloads(Case):
 
 class Sequences(Case):
     files = {"key": KEY}
-    runs = {"the keys come first": [("verify --keys 80 --sequence", MESSAGE, "fault keys BadKeySet at 0")]}
-
-    def test_what_is_said_of_a_message_is_said_of_it_in_a_sequence(self):
-        one, changed = (MESSAGE, AUTHENTIC), (flipped(MESSAGE, -1), "refused BadAuth at 10")
-        for parts in [
-            [], [one], [one, one, one], [one, changed, one], [one, changed],
-            [one, (MESSAGE[:43], "refused Truncated at 43\nLOST")],
-            [one, (b"\xff", "refused Indefinite at 0\nLOST")],
-            # after what has no next message another one makes no difference
-            [one, (SIGNED + MESSAGE, "refused NoKey at 11\nLOST")],
-        ]:
-            self.expect(f"{UNDER_KEY} --sequence", *in_sequence(*parts))
-
-    def test_tokens_with_a_message_that_has_no_claims(self):
-        three = in_sequence((TOKEN, ADMITTED), (MESSAGE, "refused claims PastRoom at 0"), (TOKEN, ADMITTED))
-        self.expect("cwt --keys-file key --now 1444064943 --sequence", *three)
 
     def test_the_lines_of_a_message_are_there_before_the_next_has_come(self):
         with self.begin(f"{UNDER_KEY} --sequence") as running:

@@ -2,7 +2,7 @@
 
 After an authentic message the folder has the new file alone, for its owner alone, with the payload that was signed or
 tagged. After a refusal or a fault it has what it had before: a file, a folder, a pipe or a link of that name is left as
-it is, also one that comes while the message is read.
+it is, also one that comes while the message is read. Short messages and names are in rows/commands.json.
 """
 import fcntl
 import hashlib
@@ -18,7 +18,7 @@ import termios
 import time
 import unittest
 
-from support import KEYS, MESSAGE, POINT, UNPROVED, UNVERIFIED, Case, encoded, flipped, mac0, needs, preloaded
+from support import KEYS, MESSAGE, UNPROVED, Case, encoded, flipped, mac0, needs, preloaded
 
 FAULT, NAME = "fault file payload-to", "new.bin"
 INTO = f"verify {KEYS} --payload-to"
@@ -27,7 +27,7 @@ KEEP = f"{INTO} {NAME}"
 LONG = bytes(range(256)) * (2_000 if UNPROVED else 20_000)
 HI, WHOLE, PART = mac0(b"hi"), mac0(LONG), mac0(LONG[:200_000])
 AUTHENTIC = HI.authentic()
-FULL, UNREAD = pathlib.Path("/dev/full"), {"is_unread": True}
+FULL = pathlib.Path("/dev/full")
 
 
 def setUpModule():
@@ -102,7 +102,6 @@ class Kept(Folders):
         "payloads of no byte to 5 MB": [
             (KEEP, mac0(LONG[:length]), mac0(LONG[:length]).authentic(), {"payload": LONG[:length]})
             for length in (0, 2, 4095, 4096, 16383, 16384, 16385, 70000, len(LONG))],
-        "long names": [(f"{INTO} {size * 'n'}", HI, AUTHENTIC, {"payload": b"hi"}) for size in (230, 240, 254, 255)],
         "a header that is longer than the room": [
             (f"verify {KEYS} --limits large --payload-to {NAME}", wide, wide.authentic(), {"payload": LONG}),
             (KEEP, wide, "refused PastRoom at 8")],
@@ -157,22 +156,9 @@ class Kept(Folders):
 
 class Refused(Folders):
     runs = {
-        "messages that are refused": [
-            (KEEP, b"", "refused Truncated at 0"),
+        "long messages that are refused": [
             (KEEP, WHOLE.encoded()[:60000], "refused Truncated at 60000"),
-            (KEEP, MESSAGE[:10], "refused Truncated at 10"),
-            (KEEP, flipped(MESSAGE, -1), HI.bad_auth()),
-            (KEEP, flipped(WHOLE.encoded(), -1), WHOLE.bad_auth()),
-            (KEEP, MESSAGE + b"\0", f"refused Trailing at {len(MESSAGE)}"),
-            (KEEP, HI._replace(is_detached=True), "refused Detached at 7"),
-            # a signature that nobody vouches for
-            (f"verify {POINT} --payload-to {NAME}", UNVERIFIED, "refused BadAuth at 8")],
-        "a name that no file can have is a fault before the input is read": [
-            ([*KEEP.split()[:-1], name], MESSAGE, FAULT, UNREAD)
-            for name in ("", "missing/new", "missing/", "/proc/new", ".", 256 * "n")],
-        "with a key set that is refused no file is made": [
-            (f"verify --keys 80 --payload-to {NAME}", MESSAGE, "fault keys BadKeySet at 0", UNREAD),
-            (f"verify --keys zz --payload-to {NAME}", MESSAGE, "fault line keys", UNREAD)],
+            (KEEP, flipped(WHOLE.encoded(), -1), WHOLE.bad_auth())],
         "a write of the file that fails": [
             (KEEP, message, FAULT, limited(most, is_signaled=False))
             for message, most in ((WHOLE, 0), (WHOLE, 100_000), (WHOLE, len(LONG) - 1), (HI, 1), (HI, 0))],
