@@ -213,7 +213,7 @@ PLACES = {
         Places("option", of_word, "crates/cosecmd/specs/*.antt"),
         Places("value of an option", of_word, "crates/cosecmd/specs/*.antt", "exp nbf iat cti"),
         Places("value of an option", of_word, "rows/commands.json"),
-        Places("option", of_option, "rows/commands.json", "payload-to"),
+        Places("option", of_option, "rows/commands.json"),
         Places("option", of_option, "ci/second_program.py", "key-file keys-file payload-file payload-length payload-to"),
         Places(
             "option with a text or a value",
@@ -242,7 +242,7 @@ PLACES = {
     ],
 }
 # where three algorithms for signatures are named and not all: those that a JWK can name (RFC 7518), and those that a version brought
-SOME = ("CHANGELOG.md", "tests/test_field.py", "examples/cose_key", "web/keys.js", "bindings/python/src/cose/key_forms.py")
+SOME = ("CHANGELOG.md", "examples/cose_key", "web/keys.js", "bindings/python/src/cose/key_forms.py")
 
 
 def faults_of(places, pattern):
