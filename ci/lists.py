@@ -7,7 +7,6 @@ ci/documents compares: each place has each member of its kind, and the checklist
 The members are those of the source. A paragraph that names three algorithms for signatures names all, wherever it is. The hints of
 the program name options that there are (ci/option_hints.py).
 """
-import pathlib
 import re
 import subprocess
 import sys

@@ -26,7 +26,7 @@ __unittest = True  # a failure is shown where the test is, and not here
 TOP = pathlib.Path(__file__).resolve().parent.parent
 sys.path.insert(0, str(TOP / "ci"))
 import mac_messages  # noqa: E402 (in ci/)
-from openssl_messages import CURVES, Tagged, cbor, flipped, new_pair, openssl  # noqa: E402, F401 (in ci/)
+from openssl_messages import cbor, flipped  # noqa: E402 (in ci/)
 
 UNPROVED = bool(os.environ.get("COSECMD_UNPROVED"))
 PROGRAM = TOP / ("out/unproved/cosecmd" if UNPROVED else "crates/cosecmd/out/cosecmd")
@@ -44,15 +44,6 @@ MESSAGE, KEY, SIGNED, SIGNED_KEY = (
     (TOP / "examples" / f"{name}.cbor").read_bytes() for name in ("mac0", "key", "sign1", "sign1_key"))
 SECRET, AUTHENTIC = b"Jefe", "authentic mac0 alg 5 payload 2 taken 44"
 KEYS = keys({1: 4, -1: SECRET})
-# a point of 32 bytes 11 and 32 bytes 22, and a COSE_Sign1 of no payload, whose signature is none under it
-POINT = keys({1: 2, -1: 1, -2: 32 * b"\x11", -3: 32 * b"\x22"})
-UNVERIFIED = bytes.fromhex("d28443a10126a0405840") + 64 * b"\x5a"
-# the claims of RFC 8392 appendix A.1, which expire at 1444064944, and what is printed of them
-CLAIMS = {1: "coap://as.example.com", 2: "erikw", 3: "coap://light.example.com", 4: 1444064944, 5: 1443944944,
-          6: 1443944944, 7: b"\x0b\x71"}
-ADMITTED = ("admitted\niss 636f61703a2f2f61732e6578616d706c652e636f6d\nsub 6572696b77\n"
-            "aud 636f61703a2f2f6c696768742e6578616d706c652e636f6d\nexp 1444064944\nnbf 1443944944\niat 1443944944\n"
-            "cti 0b71")
 
 
 class Row(NamedTuple):
@@ -114,24 +105,11 @@ def encoded(message):
     return message.encoded() if isinstance(message, Message) else message
 
 
-def mac0(payload, *, alg=5, secret=SECRET, headers=None, unprotected=None, tags=b"\xd1", data=b"", is_detached=False):
-    """A COSE_Mac0 (RFC 9052 section 6.3) of a payload and external data, with headers beside its algorithm."""
-    protected = cbor({1: alg, **(headers or {})})
-    tag = mac_messages.tag(alg, secret, protected, data, payload)
-    return Message(alg, tags, protected, unprotected or {}, payload, tag, is_detached)
-
-
-def sign1(pair, payload, *, headers=None, unprotected=None, tags=b"\xd2", data=b"", is_detached=False):
-    """A COSE_Sign1 (RFC 9052 section 4.4) that openssl signs, as `mac0` makes a COSE_Mac0."""
-    protected = cbor({1: pair.curve.alg, **(headers or {})})
-    signature = pair.sign(protected, payload, data)
-    return Message(pair.curve.alg, tags, protected, unprotected or {}, payload, signature, is_detached)
-
-
-def public(pair, **members):
-    """A COSE_Key of type EC2 (RFC 9053 section 7.1.1), whose x and y may be others, with a kid or an alg."""
-    named = {label: members[name] for name, label in (("kid", 2), ("alg", 3)) if name in members}
-    return {1: 2, **named, -1: pair.curve.number, -2: members.get("x", pair.x), -3: members.get("y", pair.y)}
+def mac0(payload, unprotected=None, data=b"", is_detached=False):
+    """A COSE_Mac0 (RFC 9052 section 6.3) of a payload and external data, with HMAC 256/256."""
+    protected = cbor({1: 5})
+    tag = mac_messages.tag(5, SECRET, protected, data, payload)
+    return Message(5, b"\xd1", protected, unprotected or {}, payload, tag, is_detached)
 
 
 class Ended(NamedTuple):
@@ -157,16 +135,6 @@ def status_of(text):
     """The status of a run that prints this (docs/COMMANDS.md): 2 for a fault, 1 for a refusal, and 0 else."""
     lines = re.findall(rb"^(?:refused|fault) ", text, re.M)
     return 2 if b"fault " in lines else 1 if lines else 0
-
-
-def in_sequence(*parts):
-    """Messages after one another, and what is printed of them: of each, given with it, after its place. LOST is for the
-    end of the one after which no next message can be found."""
-    given, lines = b"", []
-    for message, text in parts:
-        lines += [f"at {len(given)}", text.replace("LOST", f"ended at {len(given)}: the next message can't be found")]
-        given += encoded(message)
-    return given, "\n".join(lines)
 
 
 def needs(command):

@@ -3,15 +3,20 @@
 Each read gives one byte, and each write takes at most eight. Where a read fails, or a write fails or takes none, the
 run ends: it reads and writes nothing after that. Each file is opened once. fail_nth.c has what fails.
 """
-from support import (AUTHENTIC, CLAIMS, KEY, KEYS, MESSAGE, POINT, UNVERIFIED, Case, cbor, mac0, needs, preloaded,
-                     printed, status_of)
+from support import (AUTHENTIC, KEY, KEYS, MESSAGE, Case, cbor, keys, mac0, needs, preloaded, printed,
+                     status_of)
 
 # messages with nil in the place of their payload, of two bytes, of none, and of more than are taken at once
 HI, EMPTY, LONG = (mac0(payload, is_detached=True) for payload in (b"hi", b"", 5000 * b"\x5a"))
 NIL = HI.encoded()[:8]
 # a message with the longest external data
 WITH_DATA = mac0(b"hi", data=bytes(65535)).encoded()
-TOKEN = mac0(cbor(CLAIMS)).encoded()
+# the claims of RFC 8392 appendix A.1, which expire at 1444064944
+TOKEN = mac0(cbor({1: "coap://as.example.com", 2: "erikw", 3: "coap://light.example.com", 4: 1444064944, 5: 1443944944,
+                   6: 1443944944, 7: b"\x0b\x71"})).encoded()
+# a point of 32 bytes 11 and 32 bytes 22, and a COSE_Sign1 of no payload, whose signature is none under it
+POINT = keys({1: 2, -1: 1, -2: 32 * b"\x11", -3: 32 * b"\x22"})
+UNVERIFIED = bytes.fromhex("d28443a10126a0405840") + 64 * b"\x5a"
 
 VERIFY, LIST, DIGEST = f"verify {KEYS}", f"keys {KEYS} --for-message", f"digest {POINT}"
 WITH_FILE, SHOW_PAYLOAD = f"{VERIFY} --payload-file file", "show --with-payload"
