@@ -2,7 +2,7 @@
 import re
 
 from row_end_further import further_ends
-from row_ends import BYTES, NUMBERS, PROGRAM, READING, SIZES, SOURCES, End, alike, compared, first_items, left_out
+from row_ends import BYTES, NUMBERS, PROGRAM, READING, SIZES, SOURCES, End, compared, first_items, left_out
 
 TOKENS = ("tokens", "claims", "commands")
 MESSAGES = ("messages", "detached", "shapes", "commands", "tokens")
