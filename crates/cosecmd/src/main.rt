@@ -129,23 +129,17 @@ fn say_of_terminal(rt: &HostRuntime, words: &[&str]) {
     }
 }
 
-/// Runs the command of these arguments over the standard streams.
-fn run_command(rt: &HostRuntime, words: &[&str], is_closed: bool) -> u8 {
-    say_of_terminal(rt, words);
-    let files = NotedFiles::new(rt, words);
-    let mut new_files = NotedNewFiles::new(rt);
-    let mut noted = Noted::new(rt.stdin());
-    let mut input = TextInput::new(&mut noted);
-    let mut output = Noted::new(rt.stdout());
-    let status = run_with_files(
-        rt.alloc(),
-        words,
-        &files,
-        &mut new_files,
-        &mut input,
-        &mut output,
-    );
-    let fault = input.fault();
+/// Says on standard error what standard output doesn't say of a run with these arguments, which has read `noted`, printed `output`
+/// and ended with this status.
+fn say_of_run<'a, R: Read, W: Write>(
+    rt: &HostRuntime,
+    words: &'a [&'a str],
+    status: u8,
+    fault: Option<TextFault>,
+    noted: &'a Noted<R>,
+    output: &'a Noted<W>,
+    is_closed: bool,
+) {
     let form = form_named_in(words);
     if let Some(fault) = fault {
         say_of_text(rt, form, fault, noted.known());
@@ -157,9 +151,8 @@ fn run_command(rt: &HostRuntime, words: &[&str], is_closed: bool) -> u8 {
         input: first_bytes(form, noted.known(), &mut decoded),
         printed: output.known(),
     };
-    say_more(rt, &ended, form_begun(form, &noted), output.complaint());
+    say_more(rt, &ended, form_begun(form, noted), output.complaint());
     say_why_unread(rt, &ended, noted.cause(), is_closed);
-    status
 }
 
 /// What is wrong where the arguments can't be had.
@@ -170,20 +163,41 @@ fn line_of(error: &io::Error) -> &'static str {
     }
 }
 
-/// Runs the command of these arguments.
-fn run_owned(rt: &HostRuntime, owned: &[String], is_closed: bool) -> ExitCode {
-    match borrowed_words(rt.alloc(), owned) {
-        Ok(words) => ExitCode::from(run_command(rt, words.as_slice(), is_closed)),
-        Err(_) => complain(&mut rt.stdout(), "fault memory\n"),
-    }
-}
-
 fn main(rt: HostRuntime) -> ExitCode {
-    let input = hold_closed(&rt, "/dev/fd/0");
+    let closed = hold_closed(&rt, "/dev/fd/0");
     let _output = hold_closed(&rt, "/dev/fd/1");
     let _error = hold_closed(&rt, "/dev/fd/2");
-    match owned_words(&rt) {
-        Ok(owned) => run_owned(&rt, owned.as_slice(), input.is_some()),
-        Err(error) => complain(&mut rt.stdout(), line_of(&error)),
-    }
+    let owned = match owned_words(&rt) {
+        Ok(owned) => owned,
+        Err(error) => return complain(&mut rt.stdout(), line_of(&error)),
+    };
+    let words = match borrowed_words(rt.alloc(), owned.as_slice()) {
+        Ok(words) => words,
+        Err(_) => return complain(&mut rt.stdout(), "fault memory\n"),
+    };
+    say_of_terminal(&rt, words.as_slice());
+    let files = NotedFiles::new(&rt, words.as_slice());
+    let mut new_files = NotedNewFiles::new(&rt);
+    let mut noted = Noted::new(rt.stdin());
+    let mut input = TextInput::new(&mut noted);
+    let mut output = Noted::new(rt.stdout());
+    let status = run_with_files(
+        rt.alloc(),
+        words.as_slice(),
+        &files,
+        &mut new_files,
+        &mut input,
+        &mut output,
+    );
+    let fault = input.fault();
+    say_of_run(
+        &rt,
+        words.as_slice(),
+        status,
+        fault,
+        &noted,
+        &output,
+        closed.is_some(),
+    );
+    ExitCode::from(status)
 }
