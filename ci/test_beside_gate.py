@@ -12,7 +12,7 @@ import unittest
 sys.dont_write_bytecode = True
 HERE = pathlib.Path(__file__).resolve().parent
 CRATES = {"low": "low:", "mid": "mid: low", "cose_c": "cose_c staticlib: low kit", "top": "top: mid low  # no edits"}
-EDITS = {"low": 1, "mid": 2, "cose_c": 3}
+EDITS = {"low": 1, "mid": 3, "cose_c": 5}
 SCRIPTS = {
     # the fourth word is the part, and the last one the crate; a crate that has a file `passes` has an edit that isn't refused, and one that has `waits` takes a
     # minute, whatever it is sent
@@ -121,7 +121,7 @@ class Beside(unittest.TestCase):
         said = self.log.read_text().splitlines()
         self.assertLess(said.index("archives x86_64 thumbv7m wasm32"), said.index("tries cose_c 1/2"))
         self.tell("top", "ended")
-        self.assertEqual(self.end(), (0, "beside_gate: 6 of 6 wrong bodies are refused"))
+        self.assertEqual(self.end(), (0, "beside_gate: 9 of 9 wrong bodies are refused"))
 
     def test_what_the_archives_leave_is_there_when_the_gate_has_ended(self):
         self.begin("cose_c")
@@ -132,7 +132,7 @@ class Beside(unittest.TestCase):
         out = self.top / "crates" / "cose_c" / "out"
         self.assertFalse(out.exists() or (self.told / "archives").exists())
         self.tell("ended")
-        self.assertEqual(self.end(), (0, "beside_gate: 3 of 3 wrong bodies are refused"))
+        self.assertEqual(self.end(), (0, "beside_gate: 5 of 5 wrong bodies are refused"))
         self.assertTrue((self.told / "archives").exists())
         left = {"libcose_c.a": "archive", "libcose_c.a.proof": "record of cose_c", "incremental/kept": "kept"}
         self.assertEqual({it: (out / it).read_text().strip() for it in left}, left)
@@ -144,7 +144,7 @@ class Beside(unittest.TestCase):
         self.prove("cose_c")
         self.begin()
         self.tell("low", "mid", "ended")
-        self.assertEqual(self.end(), (1, "beside_gate: 4 of 6 wrong bodies are refused"))
+        self.assertEqual(self.end(), (1, "beside_gate: 7 of 9 wrong bodies are refused"))
 
     def test_what_is_not_proved_is_not_done(self):
         self.begin("mid")
