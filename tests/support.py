@@ -54,7 +54,7 @@ class Row(NamedTuple):
     files: dict
     text: bytes
     status: int
-    left: dict
+    new_files: dict
 
     def options(self):
         return {word.split("=")[0] for word in self.arguments if word.startswith("--")}
@@ -64,9 +64,9 @@ class Row(NamedTuple):
 def command_rows():
     def row(source, test, result):
         text = bytes.fromhex(result["output"]) if result["verdict"] == "bytes" else result["output"].encode()
-        files, left = ({name: bytes.fromhex(content) for name, content in it.items()}
-                       for it in (test.get("files", {}), result.get("left", {})))
-        return Row(source, test["arguments"], bytes.fromhex(test["input"]), files, text, result["status"], left)
+        files, new_files = ({name: bytes.fromhex(content) for name, content in it.items()}
+                            for it in (test.get("files", {}), result.get("newFiles", {})))
+        return Row(source, test["arguments"], bytes.fromhex(test["input"]), files, text, result["status"], new_files)
 
     groups = json.loads((TOP / "rows" / "commands.json").read_text())["testGroups"]
     return [row(group["source"], test, test["result"]) for group in groups for test in group["tests"]]

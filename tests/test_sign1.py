@@ -207,7 +207,7 @@ class Rows(Script):
         options = re.sub(" --vouch [0-9a-f]+", "", shlex.join(row.arguments[1:]))
         self.verify(options, row.given, row.text.decode()[:-1], command=row.arguments[0], cwd=folder)
         with self.subTest(options=options):
-            self.assertEqual({path.name: path.read_bytes() for path in folder.iterdir()}, {**row.files, **row.left})
+            self.assertEqual({path.name: path.read_bytes() for path in folder.iterdir()}, {**row.files, **row.new_files})
 
     def test_each_option_that_help_lists(self):
         """Of each, and of no other, a message is accepted and one isn't."""
